@@ -1,0 +1,13 @@
+pub mod Folding
+pub mod Parts
+pub mod Behind
+pub mod Splitting
+pub mod Bounds
+pub mod Numerals
+pub mod Wholes
+pub mod PartShape
+pub mod Durations
+pub mod DurationsRead
+pub mod TypeTable
+pub mod Literals
+pub mod Printing

@@ -1,0 +1,12 @@
+pub mod Name
+pub mod IdentError
+pub mod Reserved
+pub mod Range
+pub mod Value
+pub mod TypeName
+pub mod Numeral
+pub mod Duration
+pub mod Reading
+pub mod Literal
+pub mod ReadLiteral
+pub mod Printed

@@ -1,0 +1,53 @@
+-- What the reader of literals answers, over texts in lower case.
+use Rattle.std.specs.Prelude.{ℕ, ℤ, pos, Bool, ◌&&◌, List, [], ◌∷◌, Option, Some, None, codes, if◌then◌else◌}
+use Rattle.std.specs.Int.Signed.{le_z}
+use Rattle.std.specs.Option.{option_map, option_and_then}
+use Rattle.std.specs.Str.{bytes_eq}
+use Rattle.plcx_types.specs.declared.ty.Ty.{Ty}
+use Rattle.plcx_types.specs.declared.ty.Ty.TheVariants as ty
+use Rattle.plcx_types.specs.declared.literal.Literal.{Literal}
+use Rattle.plcx_types.specs.declared.literal.Literal.TheVariants.{Typed, Whole}
+use Rattle.plcx_types.specs.Range.{bounds_of}
+use Rattle.plcx_types.specs.TypeName.{same_ty, all_types}
+use Rattle.plcx_types.specs.Literal.{value, type_word}
+use Rattle.plcx_types.specs.Reading.{behind, choose, whole, time}
+
+-- the number is one of the type
+abbrev pub is_within : Ty → ℤ → Bool
+is_within t n = le_z (bounds_of t).low n && le_z n (bounds_of t).high
+
+abbrev pub truth : List ℕ → Option ℤ
+truth text = if bytes_eq text (codes "true") then Some (pos 1) else (if bytes_eq text (codes "false") then Some (pos 0) else None)
+
+abbrev pub or_else : {A : Type 0} → Option A → Option A → Option A
+or_else None other = other
+or_else (Some x) other = Some x
+
+-- the number behind the name of a type
+unfoldable pub number_behind : Ty → List ℕ → Option ℤ
+number_behind t text = if same_ty t ty.Time then time text else (if same_ty t ty.Bool then or_else (truth text) (whole text) else whole text)
+
+-- a number of a type, where it is one
+unfoldable pub of_type : Ty → ℤ → Option Literal
+of_type t n = if is_within t n then Some (Typed (value t n)) else None
+
+abbrev pub typed : Ty → List ℕ → Option Literal
+typed t text = option_and_then (of_type t) (number_behind t text)
+
+abbrev pub behind_name : Ty → List ℕ → Option (List ℕ)
+behind_name t text = option_and_then (behind (codes "#")) (behind (type_word t) text)
+
+-- a literal with the name of one of the types before it, or a whole one
+unfoldable pub typed_or_whole : List Ty → List ℕ → Option Literal
+typed_or_whole [] text = option_map Whole (whole text)
+typed_or_whole (t ∷ ts) text = choose (behind_name t text) (typed t) (typed_or_whole ts text)
+
+unfoldable pub timed_or_other : List ℕ → Option Literal
+timed_or_other text = choose (behind (codes "t#") text) (typed ty.Time) (typed_or_whole all_types text)
+
+abbrev pub truth_or : Option ℤ → Option Literal → Option Literal
+truth_or None other = other
+truth_or (Some n) other = of_type ty.Bool n
+
+unfoldable pub literal_of : List ℕ → Option Literal
+literal_of text = truth_or (truth text) (timed_or_other text)

@@ -1,0 +1,6 @@
+/// Why the evaluation of a function ends a scan.
+#[derive(Clone, Copy, Debug, PartialEq, Eq)]
+pub enum Fault {
+    DivByZero,
+    Range,
+}

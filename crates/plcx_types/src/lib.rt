@@ -1,0 +1,29 @@
+//! What all of plcx speaks of: names, types, values, spans, and want of memory.
+//!
+//! A name is seen by contracts as its bytes, in the spelling that it was given. The crates above compare
+//! names by `folded`, and refuse names by `is_reserved`. A value is seen as its type and its number.
+#![tactic(auto)]
+
+mod duration;
+mod fault;
+mod ident;
+mod law;
+mod literal;
+mod memory;
+mod numeral;
+mod print;
+mod reserved;
+mod span;
+mod ty;
+mod val;
+
+pub use fault::Fault;
+pub use ident::{Ident, IdentError, is_identifier, same_name};
+pub use law::{one_literal, printed_is_read, types_by_name};
+pub use literal::{Literal, NotLiteral, read_literal, read_value};
+pub use memory::NoMemory;
+pub use print::print_literal;
+pub use reserved::{is_keyword, is_listed, is_reserved};
+pub use span::Span;
+pub use ty::Ty;
+pub use val::{Val, default_of, in_range};

@@ -1,0 +1,245 @@
+//! Literals: a value with its type, or a whole number that gets its type from its place.
+ghost use Rattle.std.specs.Prelude.{◌≡◌, ℤ, pos, true, false, Some, None, IfSome, IfNone, IfOk, IfErr, MatchOption};
+ghost use Rattle.std.specs.Option.{option_map};
+ghost use Rattle.plcx_types.specs.declared.ty.Ty.TheVariants as ty;
+ghost use Rattle.plcx_types.specs.Name.{folded};
+ghost use Rattle.plcx_types.specs.Reading.{GivesRest};
+ghost use Rattle.plcx_types.specs.TypeName.{all_types};
+ghost use Rattle.plcx_types.specs.Literal.{value, type_word, StandsFor, StandsForValue};
+ghost use Rattle.plcx_types.specs.ReadLiteral.{truth, number_behind, of_type, typed, behind_name, typed_or_whole, timed_or_other, literal_of};
+ghost use Rattle.plcx_types.specs.Value.{Value};
+ghost use Rattle.plcx_types.specs.Literal.{IsValueOf};
+ghost use Rattle.plcx_types.specs.declared.literal.Literal.{Literal};
+ghost use Rattle.plcx_types.specs.declared.literal.Literal.TheVariants.{Whole};
+
+use crate::duration::time;
+use crate::numeral::{behind, whole};
+use crate::reserved::TYPES;
+use crate::ty::Ty;
+use crate::val::Val;
+
+/// What a literal stands for: a value, or a whole number without a type.
+#[derive(Clone, Copy, Debug, PartialEq, Eq)]
+pub enum Literal {
+    Typed(Val),
+    Whole(i128),
+}
+
+/// A text is no literal, or none of the type that is asked for.
+#[derive(Clone, Copy, Debug, PartialEq, Eq)]
+pub struct NotLiteral;
+
+const ALL_TYPES: [Ty; 14] = [
+    Ty::Bool,
+    Ty::Byte,
+    Ty::Word,
+    Ty::Dword,
+    Ty::Lword,
+    Ty::Sint,
+    Ty::Int,
+    Ty::Dint,
+    Ty::Lint,
+    Ty::Usint,
+    Ty::Uint,
+    Ty::Udint,
+    Ty::Ulint,
+    Ty::Time,
+];
+
+fn type_word(ty: Ty) -> &'static str
+    ensures { result.now ≡ type_word ty }
+{
+    TYPES[ty as usize]
+}
+
+fn truth(text: &[u8]) -> Option<i128>
+    ensures { result ≡ truth (folded text.now) }
+{
+    if text.eq_ignore_ascii_case(b"true") {
+        Some(1)
+    } else if text.eq_ignore_ascii_case(b"false") {
+        Some(0)
+    } else {
+        None
+    }
+}
+
+#[tactic(auto, unfolding(crate::specs::ReadLiteral::number_behind))]
+fn number_behind(ty: Ty, text: &[u8]) -> Option<i128>
+    ensures { result ≡ number_behind ty (folded text.now) }
+{
+    match ty {
+        Ty::Time => time(text),
+        Ty::Bool => truth(text).or(whole(text)),
+        _ => whole(text),
+    }
+}
+
+#[tactic(auto, unfolding(crate::specs::ReadLiteral::of_type))]
+fn of_type(ty: Ty, n: i128) -> Option<Literal>
+    ensures { result ≡ of_type ty n }
+{
+    let value = Val::new(ty, n)?;
+    Some(Literal::Typed(value))
+}
+
+fn typed(ty: Ty, text: &[u8]) -> Option<Literal>
+    ensures { result ≡ typed ty (folded text.now) }
+{
+    let n = number_behind(ty, text)?;
+    of_type(ty, n)
+}
+
+fn behind_name(ty: Ty, text: &[u8]) -> Option<&[u8]>
+    ensures { GivesRest (λ rest. folded rest.now) result (behind_name ty (folded text.now)) }
+{
+    let rest = behind(type_word(ty).as_bytes(), text)?;
+    behind(b"#", rest)
+}
+
+#[tactic(auto, unfolding(crate::specs::ReadLiteral::typed_or_whole))]
+fn typed_or_whole(types: &[Ty], text: &[u8]) -> Option<Literal>
+    ensures { result ≡ typed_or_whole types.now (folded text.now) }
+{
+    for ty in types {
+        if let Some(rest) = behind_name(*ty, text) {
+            return typed(*ty, rest);
+        }
+    }
+    let n = whole(text)?;
+    Some(Literal::Whole(n))
+}
+
+#[tactic(auto, unfolding(crate::specs::ReadLiteral::timed_or_other))]
+fn timed_or_other(text: &[u8]) -> Option<Literal>
+    ensures { result ≡ timed_or_other (folded text.now) }
+{
+    match behind(b"t#", text) {
+        Some(rest) => typed(Ty::Time, rest),
+        None => typed_or_whole(&ALL_TYPES, text),
+    }
+}
+
+#[tactic(auto, unfolding(crate::specs::ReadLiteral::literal_of))]
+fn literal_of(text: &[u8]) -> Option<Literal>
+    ensures { result ≡ literal_of (folded text.now) }
+{
+    match truth(text) {
+        Some(n) => of_type(Ty::Bool, n),
+        None => timed_or_other(text),
+    }
+}
+
+/// The literal that a text is.
+#[tactic(auto, using(crate::proofs::Literals::literal_reads, crate::proofs::Literals::literal_is))]
+pub fn read_literal(text: &[u8]) -> Result<Literal, NotLiteral>
+    ensures ok { IfOk result (λ literal. StandsFor text.now literal) }
+    ensures none { IfErr result (λ _. (literal : Literal) → StandsFor text.now literal → ⊥) }
+{
+    literal_of(text).ok_or(NotLiteral)
+}
+
+fn whole_value(ty: Ty, n: i128) -> Option<Val>
+    ensures some { IfSome result (λ value. IsValueOf ty (Whole n) value) }
+    ensures none { IfNone result ((value : Value) → IsValueOf ty (Whole n) value → ⊥) }
+{
+    match ty {
+        Ty::Time => None,
+        _ => Val::new(ty, n),
+    }
+}
+
+fn as_value(ty: Ty, literal: Literal) -> Option<Val>
+    ensures some { IfSome result (λ value. IsValueOf ty literal value) }
+    ensures none { IfNone result ((value : Value) → IsValueOf ty literal value → ⊥) }
+{
+    match literal {
+        Literal::Typed(value) => value.of_type(ty),
+        Literal::Whole(n) => whole_value(ty, n),
+    }
+}
+
+/// The value of the type that a text is: a typed literal of it, or a whole number in its range. A whole number is no length of time.
+pub fn read_value(ty: Ty, text: &[u8]) -> Result<Val, NotLiteral>
+    ensures ok { IfOk result (λ value. StandsForValue ty text.now value) }
+    ensures none { IfErr result (λ _. (value : Value) → StandsForValue ty text.now value → ⊥) }
+{
+    let literal = read_literal(text)?;
+    as_value(ty, literal).ok_or(NotLiteral)
+}
+
+#[cfg(test)]
+mod tests {
+    use super::*;
+
+    const VALUES: [(&str, Ty, i128); 16] = [
+        ("true", Ty::Bool, 1),
+        ("BOOL#False", Ty::Bool, 0),
+        ("BOOL#16#1", Ty::Bool, 1),
+        ("1_000", Ty::Int, 1000),
+        ("+7", Ty::Usint, 7),
+        ("-7", Ty::Lint, -7),
+        ("2#1010_1010", Ty::Byte, 170),
+        ("8#17", Ty::Word, 15),
+        ("16#fF", Ty::Dword, 255),
+        ("int#-32768", Ty::Int, -32768),
+        (
+            "ULINT#16#ffffffffffffffff",
+            Ty::Ulint,
+            18_446_744_073_709_551_615,
+        ),
+        ("T#1.5s", Ty::Time, 1500),
+        ("TIME#1d_2h", Ty::Time, 93_600_000),
+        ("t#-5MS", Ty::Time, -5),
+        ("T#1d1h1m1s1ms", Ty::Time, 90_061_001),
+        ("T#00000000000000000001ms", Ty::Time, 1),
+    ];
+
+    const OTHERS: [(&str, Ty); 20] = [
+        ("yes", Ty::Bool),
+        ("BOOL#5", Ty::Bool),
+        ("INT#TRUE", Ty::Int),
+        ("1__000", Ty::Int),
+        ("1_", Ty::Int),
+        ("_1", Ty::Int),
+        ("+-7", Ty::Lint),
+        ("-16#7", Ty::Lint),
+        ("2#2", Ty::Byte),
+        ("8#", Ty::Word),
+        ("INT#32768", Ty::Int),
+        ("INT#1", Ty::Uint),
+        ("256", Ty::Byte),
+        ("100", Ty::Time),
+        ("T#0.0001s", Ty::Time),
+        ("T#1h1d", Ty::Time),
+        ("T#1.5s1ms", Ty::Time),
+        ("T#1s__1ms", Ty::Time),
+        ("T#000000000000000000001ms", Ty::Time),
+        ("T#", Ty::Time),
+    ];
+
+    #[test]
+    fn reads_each_form(rt: HostRuntime) {
+        for (text, ty, n) in VALUES {
+            let read = read_value(ty, text.as_bytes());
+            assert!(rt; matches!(read, Ok(value) if value.n() == n), "at {text}");
+        }
+    }
+
+    #[test]
+    fn refuses_each_neighbour(rt: HostRuntime) {
+        for (text, ty) in OTHERS {
+            let read = read_value(ty, text.as_bytes());
+            assert!(rt; matches!(read, Err(NotLiteral)), "at {text}");
+        }
+    }
+
+    #[test]
+    fn keeps_a_whole_number_without_a_type(rt: HostRuntime) {
+        let greatest = b"170141183460469231731687303715884105727";
+        let read = read_literal(greatest);
+        assert!(rt; matches!(read, Ok(Literal::Whole(n)) if n == i128::MAX));
+        let above = read_literal(b"170141183460469231731687303715884105728");
+        assert!(rt; matches!(above, Err(NotLiteral)));
+    }
+}
