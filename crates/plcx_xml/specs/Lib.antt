@@ -1,0 +1,11 @@
+pub mod Look
+pub mod Character
+pub mod Grammar
+pub mod Events
+pub mod StandsForTree
+pub mod Reading
+pub mod RawParts
+pub mod Reads
+pub mod Nesting
+pub mod Refuses
+pub mod Built

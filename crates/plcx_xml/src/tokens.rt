@@ -1,0 +1,140 @@
+//! The token at the front of bytes, with the memory that it takes.
+ghost use Rattle.std.specs.Prelude.{◌≡◌, IfOk};
+ghost use Rattle.std.specs.Option.{option_map};
+ghost use Rattle.plcx_xml.specs.Reads.{span_between, attribute_at, attributes_at, end_token, text_token, tag_token, token_at};
+
+use crate::lexing::{begin_of, behind_space, close_of, end_of, parts_of, text_of};
+use crate::token::{Kind, Token};
+use crate::tree::Attribute;
+use plcx_types::Span;
+use sqlite_items::Items;
+use std::alloc::{AllocError, Global};
+
+fn span_between(last: u64, own: &[u8], rest: &[u8]) -> Span
+    ensures { result ≡ span_between last own.now rest.now }
+{
+    Span {
+        start: last.saturating_sub(own.len() as u64),
+        end: last.saturating_sub(rest.len() as u64),
+    }
+}
+
+fn attribute_of(
+    alloc: Global,
+    last: u64,
+    bytes: &[u8],
+) -> Result<Option<(Attribute, &[u8])>, AllocError>
+    ensures { IfOk result (λ found. option_map (λ p. (p.0, p.1.now)) found ≡ attribute_at last bytes.now) }
+{
+    match parts_of(bytes) {
+        None => Ok(None),
+        Some(parts) => {
+            let attribute = Attribute {
+                name: Items::from_slice(alloc, parts.name)?,
+                value: Items::from_slice(alloc, parts.value)?,
+                span: span_between(last, parts.own, parts.rest),
+            };
+            Ok(Some((attribute, parts.rest)))
+        }
+    }
+}
+
+fn attributes_of(
+    alloc: Global,
+    last: u64,
+    bytes: &[u8],
+) -> Result<(Items<Attribute>, &[u8]), AllocError>
+    ensures { IfOk result (λ found. (found.0, found.1.now) ≡ attributes_at last bytes.now) }
+{
+    let mut found = Vec::new(alloc);
+    let mut rest = bytes;
+    for turn in 0..bytes.len() {
+        match attribute_of(alloc, last, rest)? {
+            None => return Ok((Items::from_vec(found), rest)),
+            Some((attribute, after)) => {
+                found.push(attribute)?;
+                rest = after;
+            }
+        }
+    }
+    Ok((Items::from_vec(found), rest))
+}
+
+fn end_token_of(
+    alloc: Global,
+    last: u64,
+    bytes: &[u8],
+) -> Result<Option<(Token, &[u8])>, AllocError>
+    ensures { IfOk result (λ found. option_map (λ p. (p.0, p.1.now)) found ≡ end_token last bytes.now) }
+{
+    match end_of(bytes) {
+        None => Ok(None),
+        Some((name, rest)) => {
+            let token = Token {
+                kind: Kind::End(Items::from_slice(alloc, name)?),
+                span: span_between(last, bytes, rest),
+            };
+            Ok(Some((token, rest)))
+        }
+    }
+}
+
+fn text_token_of(
+    alloc: Global,
+    last: u64,
+    bytes: &[u8],
+) -> Result<Option<(Token, &[u8])>, AllocError>
+    ensures { IfOk result (λ found. option_map (λ p. (p.0, p.1.now)) found ≡ text_token last bytes.now) }
+{
+    match text_of(bytes) {
+        None => Ok(None),
+        Some((value, rest)) => {
+            let token = Token {
+                kind: Kind::Text(Items::from_slice(alloc, value)?),
+                span: span_between(last, bytes, rest),
+            };
+            Ok(Some((token, rest)))
+        }
+    }
+}
+
+fn tag_token_of(
+    alloc: Global,
+    last: u64,
+    bytes: &[u8],
+) -> Result<Option<(Token, &[u8])>, AllocError>
+    ensures { IfOk result (λ found. option_map (λ p. (p.0, p.1.now)) found ≡ tag_token last bytes.now) }
+{
+    let Some((name, after)) = begin_of(bytes) else {
+        return Ok(None);
+    };
+    let (attributes, after) = attributes_of(alloc, last, after)?;
+    let Some((is_empty, rest)) = close_of(behind_space(after)) else {
+        return Ok(None);
+    };
+    let name = Items::from_slice(alloc, name)?;
+    let span = span_between(last, bytes, rest);
+    let kind = if is_empty {
+        Kind::Empty(name, attributes)
+    } else {
+        Kind::Start(name, attributes)
+    };
+    Ok(Some((Token { kind, span }, rest)))
+}
+
+/// The token that the bytes of a file of that length begin with, and what follows it.
+pub fn token_of(
+    alloc: Global,
+    last: u64,
+    bytes: &[u8],
+) -> Result<Option<(Token, &[u8])>, AllocError>
+    ensures { IfOk result (λ found. option_map (λ p. (p.0, p.1.now)) found ≡ token_at last bytes.now) }
+{
+    if let Some(found) = end_token_of(alloc, last, bytes)? {
+        return Ok(Some(found));
+    }
+    if let Some(found) = tag_token_of(alloc, last, bytes)? {
+        return Ok(Some(found));
+    }
+    text_token_of(alloc, last, bytes)
+}
