@@ -1,0 +1,5 @@
+pub mod Counts
+pub mod Found
+pub mod Kept
+pub mod Products
+pub mod Ranges

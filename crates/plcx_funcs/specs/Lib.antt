@@ -1,0 +1,4 @@
+pub mod Types
+pub mod Names
+pub mod Pins
+pub mod Applied
