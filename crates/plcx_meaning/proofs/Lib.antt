@@ -1,0 +1,13 @@
+pub mod Names
+pub mod Lists
+pub mod Declared
+pub mod Wires
+pub mod Readiness
+pub mod Spelling
+pub mod Agree
+pub mod Elements
+pub mod Leaves
+pub mod Events
+pub mod Stuck
+pub mod Turns
+pub mod Crossed

@@ -1,0 +1,12 @@
+pub mod Base
+pub mod Layout
+pub mod Diagram
+pub mod Text
+pub mod Ready
+pub mod Spelled
+pub mod Templates
+pub mod Run
+pub mod Same
+pub mod Fits
+pub mod Turns
+pub mod Examples
