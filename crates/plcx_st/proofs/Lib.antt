@@ -1,0 +1,5 @@
+pub mod PrintLemmas
+pub mod TokenLemmas
+pub mod UnitLemmas
+pub mod Made
+pub mod ReadAgain
