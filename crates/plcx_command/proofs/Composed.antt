@@ -1,0 +1,109 @@
+-- The passes of the compiler, one after another.
+use Rattle.std.proofs.Common.{◌≡◌, ℕ, List, [], ◌∷◌, ◌≤◌, ◌^◌, length, arith, refl, ap, sym, ◌∙◌, subst, get_or, Some, None}
+use Rattle.plcx_meaning.specs.Base.{Each}
+use Rattle.plcx_meaning.specs.Diagram as diagram
+use Rattle.plcx_meaning.specs.Templates.{unit_of}
+use Rattle.plcx_meaning.specs.Fits.{PouFits, ProjectFits}
+use Rattle.plcx_meaning.specs.Ready.{IsReady}
+use Rattle.plcx_meaning.specs.Spelled.{IsSpelled}
+use Rattle.plcx_meaning.specs.Same.{Behaves}
+use Rattle.plcx_model.specs.declared.project.Project.{Project}
+use Rattle.plcx_model.specs.declared.project.Pou.{Pou}
+use Rattle.plcx_model.specs.declared.project.Element as model
+use Rattle.plcx_model.specs.Sound.{IsSound}
+use Rattle.plcx_order.specs.Planned.{BodiesAreSmall}
+use Rattle.plcx_model.specs.Shape.{BodyIsFirst, IsFirstShape}
+use Rattle.plcx_model.specs.Networks.{AreNetworks}
+use Rattle.plcx_model.specs.DiagramOf.{diagram_of}
+use Rattle.plcx_st.specs.declared.tree.Unit.{Unit}
+use Rattle.plcx_st.specs.Grammar.{StandsForUnit}
+use Rattle.plcx_st.specs.Meant.{meant}
+use Rattle.plcx_st.specs.Print.{printed}
+use Rattle.plcx_xml.specs.declared.tree.Element.{Element}
+use Rattle.plcx_xml.specs.StandsForTree.{IsTreeOf, StandsForTree}
+use Rattle.plcx_profile.specs.ProjectAt.{project_at}
+use Rattle.plcx_command.specs.FirstForm.{IsTextOf, IsReadBack, IsCompiled, HasFirstForm}
+
+-- the one item of a list
+pub the_item : (ps : List Pou) (p q : Pou) → ps ≡ p ∷ [] → q ≡ get_or ps 0 q → q ≡ p
+the_item ps p q one is = is ∙ ap (λ (xs : List Pou). get_or xs 0 q) one
+
+-- sound bodies are small
+small-bodies : (ps : List Pou) → Each IsSound ps → Each (λ (p : Pou). length p.elements ≤ 2 ^ 32) ps
+small-bodies [] sound = tt
+small-bodies (p ∷ ps) sound = (omega (arith, sound.0.bounded), small-bodies ps sound.1)
+
+pub bodies_are_small : (project : Project) → Each IsSound project.pous → BodiesAreSmall project
+bodies_are_small project sound = small-bodies project.pous sound
+
+one_fits : (p : diagram.Pou) → PouFits p → ProjectFits (p ∷ [])
+one_fits p fits = record { names = refl; pous = (fits, tt) }
+
+-- what is printed of a unit that means the text of a diagram
+module _
+    (ready : (project : diagram.Project) → ProjectFits project → IsReady (unit_of project))
+    (spelled : (project : diagram.Project) → ProjectFits project → IsSpelled (unit_of project))
+    (behaves : (project : diagram.Project) → ProjectFits project → Behaves project (unit_of project))
+    (one_unit : (bytes : List ℕ) (u v : Unit) → StandsForUnit bytes u → StandsForUnit bytes v → u ≡ v)
+    (again : (u : Unit) → IsSpelled (meant u) → (v : Unit) × StandsForUnit (printed (meant u)) v × (meant v ≡ meant u))
+  where
+    read_back : (project : diagram.Project) (u : Unit) → ProjectFits project → meant u ≡ unit_of project → IsReadBack (printed (meant u)) project
+    read_back project u fits same =
+        let found = again u (rw same (spelled project fits)) in
+        let is : meant found.0 ≡ unit_of project = found.2 ∙ same in
+        record {
+          unit = found.0;
+          stands = found.1;
+          only = λ other h. one_unit (printed (meant u)) other found.0 h found.1;
+          ready = rw is (ready project fits);
+          behaves = rw is (behaves project fits);
+        }
+
+    pub text_made : (project : Project) (p : Pou) (ns : List (List model.Element)) (u : Unit) (text : List ℕ)
+        → project.pous ≡ p ∷ [] → BodyIsFirst p → AreNetworks p ns → PouFits (diagram_of p ns) → meant u ≡ unit_of (diagram_of p ns ∷ []) → text ≡ printed (meant u)
+        → IsTextOf project text
+    text_made project p ns u text one first order fits same printed_is = record {
+      pou = p;
+      networks = ns;
+      one = one;
+      first = first;
+      order = order;
+      text_is = printed_is ∙ ap printed same;
+      read_back = rw printed_is (read_back (diagram_of p ns ∷ []) u (one_fits _ fits) same);
+    }
+
+-- bytes whose one tree stands for no project have not the form
+pub no_project : (one_tree : (bytes : List ℕ) (a b : Element) → StandsForTree bytes a → StandsForTree bytes b → a ≡ b) (bytes : List ℕ) (root : Element)
+    → IsTreeOf bytes root → project_at root ≡ None → HasFirstForm bytes → ⊥
+no_project one_tree bytes root tree none form =
+    let same : form.root ≡ root = one_tree bytes form.root root form.tree.stands tree.stands in
+    let found = rw same at form.stands in
+    cc
+
+-- nor have those whose project's body is not built
+pub no_shape : (one_tree : (bytes : List ℕ) (a b : Element) → StandsForTree bytes a → StandsForTree bytes b → a ≡ b) (bytes : List ℕ) (root : Element) (project : Project)
+    → IsTreeOf bytes root → project_at root ≡ Some project → (IsFirstShape project → ⊥) → HasFirstForm bytes → ⊥
+no_shape one_tree bytes root project tree stands not_first form =
+    let same : form.root ≡ root = one_tree bytes form.root root form.tree.stands tree.stands in
+    let found : Some form.project ≡ Some project = sym (rw same at form.stands) ∙ stands in
+    let is : form.project ≡ project = cc in
+    not_first (subst IsFirstShape is form.shape)
+
+-- a project has one text
+same-text : (one_plan : (p : Pou) (ns ms : List (List model.Element)) → AreNetworks p ns → AreNetworks p ms → ns ≡ ms) (project : Project) (a b : List ℕ)
+    → IsTextOf project a → IsTextOf project b → a ≡ b
+same-text one_plan project a b x y =
+    let both : x.pou ∷ [] ≡ y.pou ∷ [] = sym x.one ∙ y.one in
+    let pou : x.pou ≡ y.pou = cc in
+    let order : AreNetworks y.pou x.networks = subst (λ (p : Pou). AreNetworks p x.networks) pou x.order in
+    let networks : x.networks ≡ y.networks = one_plan y.pou x.networks y.networks order y.order in
+    x.text_is ∙ ap (λ (p : Pou). printed (unit_of (diagram_of p x.networks ∷ []))) pou ∙ ap (λ (ns : List (List model.Element)). printed (unit_of (diagram_of y.pou ns ∷ []))) networks ∙ sym y.text_is
+
+-- and so have bytes
+pub one_compiled : (one_tree : (bytes : List ℕ) (a b : Element) → StandsForTree bytes a → StandsForTree bytes b → a ≡ b) (one_plan : (p : Pou) (ns ms : List (List model.Element)) → AreNetworks p ns → AreNetworks p ms → ns ≡ ms)
+    → (bytes a b : List ℕ) → IsCompiled bytes a → IsCompiled bytes b → a ≡ b
+one_compiled one_tree one_plan bytes a b x y =
+    let root : x.root ≡ y.root = one_tree bytes x.root y.root x.tree.stands y.tree.stands in
+    let found : Some x.project ≡ Some y.project = sym (rw root at x.stands) ∙ y.stands in
+    let project : x.project ≡ y.project = cc in
+    same-text one_plan y.project a b (subst (λ (p : Project). IsTextOf p a) project x.text_of) y.text_of

@@ -1,0 +1,57 @@
+-- How a call ends: its status, and what its two sinks got.
+use Rattle.std.specs.Prelude.{◌≡◌, ℕ, List, ◌⊎◌}
+use Rattle.std.specs.declared.option.Option.{Option}
+use Rattle.std.specs.Io.KnownBytes.{Appends, Keeps}
+use Rattle.plcx_io.specs.Counts.{Rose}
+use Rattle.plcx_io.specs.Told.{AppendsFront}
+use Rattle.plcx_command.specs.Answer.{Answer, output, refusal, memory_answer, write_line}
+use Rattle.plcx_command.specs.Command.{Command}
+use Rattle.plcx_command.specs.Says.{Says}
+use Rattle.plcx_command.specs.declared.status.Refused.TheVariants as refused
+use Rattle.plcx_command.specs.declared.status.Status.{Status}
+use Rattle.plcx_command.specs.declared.status.Status.TheVariants.{Done, Usage, ReadFault, WriteFault, NoMemory, NotBuilt}
+
+-- a sink before and after a call: its bytes and its count of faults
+pub record Change : Type 0 where
+  pub was : Option (List ℕ)
+  pub now : Option (List ℕ)
+  pub had : ℕ
+  pub has : ℕ
+
+abbrev pub change : Option (List ℕ) → Option (List ℕ) → ℕ → ℕ → Change
+change was now had has = record { was = was; now = now; had = had; has = has }
+
+-- the sink got exactly these bytes
+abbrev pub Gets : Change → List ℕ → Type 0
+Gets c bytes = Appends c.was c.now bytes
+
+-- its count rose, and it got a front of these bytes
+abbrev pub GetsFront : Change → List ℕ → Type 0
+GetsFront c bytes = Rose c.had c.has × AppendsFront c.was c.now bytes
+
+abbrev pub Unchanged : Change → Type 0
+Unchanged c = Keeps c.was c.now
+
+-- An answer is written: the output to the one sink, or the line to the other; or a write failed.
+abbrev pub Written : Answer → Status → Change → Change → Type 0
+Written (output bytes) Done out err = Gets out bytes × Unchanged err
+Written (output bytes) WriteFault out err = GetsFront out bytes × (Gets err write_line ⊎ GetsFront err write_line)
+Written (output bytes) Usage out err = ⊥
+Written (output bytes) ReadFault out err = ⊥
+Written (output bytes) NoMemory out err = ⊥
+Written (output bytes) NotBuilt out err = ⊥
+Written (refusal why line) Done out err = ⊥
+Written (refusal why line) WriteFault out err = GetsFront err line × Unchanged out
+Written (refusal why line) Usage out err = (why ≡ refused.Usage) × Gets err line × Unchanged out
+Written (refusal why line) ReadFault out err = (why ≡ refused.ReadFault) × Gets err line × Unchanged out
+Written (refusal why line) NoMemory out err = (why ≡ refused.NoMemory) × Gets err line × Unchanged out
+Written (refusal why line) NotBuilt out err = (why ≡ refused.NotBuilt) × Gets err line × Unchanged out
+
+-- the command's answer, or that memory was refused
+abbrev pub MaySay : (List ℕ → Option (List ℕ)) → (List ℕ → Type 0) → Command → Answer → Type 0
+MaySay told rose command a = Says told rose command a ⊎ (a ≡ memory_answer)
+
+pub record Ends (told : List ℕ → Option (List ℕ)) (rose : List ℕ → Type 0) (command : Command) (status : Status) (out err : Change) : Type 0 where
+  pub answer : Answer
+  pub said : MaySay told rose command answer
+  pub written : Written answer status out err

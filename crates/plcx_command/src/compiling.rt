@@ -1,0 +1,60 @@
+//! The text of a file's diagram.
+ghost use Rattle.std.specs.Prelude.{◌≡◌, IfOk, MatchOption};
+ghost use Rattle.plcx_command.specs.FirstForm.{HasFirstForm, IsCompiled};
+
+use plcx_jump::compile;
+use plcx_model::{Plan, Project, diagrams_fit};
+use plcx_order::{PlanError, plan};
+use plcx_profile::{ProfileError, project_of, sound_projects};
+use plcx_st::{one_unit, print, read_again};
+use plcx_types::NoMemory;
+use plcx_xml::{XmlError, one_tree, read_tree};
+use std::alloc::Global;
+
+/// The text of a project's one body, whose networks stand in the plan.
+fn text_of(alloc: Global, project: &Project, plan: &Plan) -> Result<Vec<u8>, NoMemory>
+    requires planned { IsPlanned project.now plan.now }
+    requires sound { Each IsSound project.now.pous }
+    ensures { IfOk result (λ text. IsTextOf project.now text.items) }
+{
+    diagrams_fit();
+    same_behavior();
+    one_unit();
+    read_again();
+    let [pou] = project.pous.as_slice() else {
+        unreachable!()
+    };
+    let unit = compile(alloc, pou, plan)?;
+    print(alloc, &unit)
+}
+
+ghost use Rattle.plcx_meaning.specs.Base.{Each};
+ghost use Rattle.plcx_model.specs.Sound.{IsSound};
+ghost use Rattle.plcx_order.specs.Planned.{IsPlanned};
+ghost use Rattle.plcx_command.specs.FirstForm.{IsTextOf};
+
+use plcx_meaning::same_behavior;
+
+/// The text of the file, or that it has not the form which is built.
+pub fn compile_bytes(alloc: Global, bytes: &[u8]) -> Result<Option<Vec<u8>>, NoMemory>
+    ensures { IfOk result (λ found. MatchOption found (HasFirstForm bytes.now → ⊥) (λ text. IsCompiled bytes.now text.items)) }
+{
+    one_tree();
+    sound_projects();
+    let root = match read_tree(alloc, bytes) {
+        Ok(root) => root,
+        Err(XmlError::NotBuilt) => return Ok(None),
+        Err(XmlError::NoMemory) => return Err(NoMemory),
+    };
+    let project = match project_of(alloc, &root) {
+        Ok(project) => project,
+        Err(ProfileError::NotBuilt) => return Ok(None),
+        Err(ProfileError::NoMemory) => return Err(NoMemory),
+    };
+    let plan = match plan(alloc, &project) {
+        Ok(plan) => plan,
+        Err(PlanError::NotBuilt) => return Ok(None),
+        Err(PlanError::NoMemory) => return Err(NoMemory),
+    };
+    Ok(Some(text_of(alloc, &project, &plan)?))
+}

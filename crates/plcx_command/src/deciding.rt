@@ -1,0 +1,77 @@
+//! What is to be written, before anything is.
+ghost use Rattle.std.specs.Prelude.{◌≡◌, IfOk};
+ghost use Rattle.plcx_io.specs.Counts.{Rose};
+ghost use Rattle.plcx_command.specs.Answer.{usage_answer, not_built_answer, read_answer};
+ghost use Rattle.plcx_command.specs.Says.{Says, AfterRead, compiled};
+ghost use Rattle.plcx_command.specs.SaidBy.{said_by};
+ghost use Rattle.plcx_command.specs.ReplyOf.{answer_of};
+
+use crate::command::Command;
+use crate::compiling::compile_bytes;
+use crate::reply::Reply;
+use crate::status::Refused;
+use plcx_io::{Desk, LoadError, load};
+use plcx_types::NoMemory;
+use std::alloc::Global;
+
+/// The bytes that a file may have.
+const LIMIT: u64 = 16777216;
+
+fn usage(alloc: Global) -> Result<Reply, NoMemory>
+    ensures { IfOk result (λ reply. answer_of reply ≡ usage_answer) }
+{
+    let line =
+        b"plcx: usage: plcx ACTION FILE [EVENTS] [--program NAME] [--turns N] [--retain FILE]\n";
+    Ok(Reply::Refusal(Refused::Usage, line.to_vec(alloc)?))
+}
+
+fn not_built(alloc: Global) -> Result<Reply, NoMemory>
+    ensures { IfOk result (λ reply. answer_of reply ≡ not_built_answer) }
+{
+    Ok(Reply::Refusal(Refused::NotBuilt, b"plcx: not built\n".to_vec(alloc)?))
+}
+
+fn read_fault(alloc: Global, name: &str) -> Result<Reply, NoMemory>
+    ensures { IfOk result (λ reply. answer_of reply ≡ read_answer name.now) }
+{
+    let mut line = b"plcx: cannot read ".to_vec(alloc)?;
+    line.extend_from_slice(name.as_bytes())?;
+    line.push(b'\n')?;
+    Ok(Reply::Refusal(Refused::ReadFault, line))
+}
+
+/// What a file gives that was read whole.
+fn compiled(alloc: Global, bytes: &[u8]) -> Result<Reply, NoMemory>
+    ensures { IfOk result (λ reply. compiled bytes.now (answer_of reply)) }
+{
+    match compile_bytes(alloc, bytes)? {
+        Some(text) => Ok(Reply::Output(text)),
+        None => not_built(alloc),
+    }
+}
+
+/// Reads the file and compiles it.
+fn compile_file<D: Desk>(alloc: Global, desk: &mut D, name: &str) -> Result<Reply, NoMemory>
+    ensures { IfOk result (λ reply. AfterRead (D.file desk.old name.now)
+        (Rose (D.faults desk.old name.now) (D.faults desk.new name.now))
+        name.now not_built_answer compiled (answer_of reply)) }
+{
+    match load(alloc, desk, name, LIMIT) {
+        Ok(bytes) => compiled(alloc, &bytes),
+        Err(LoadError::Read) => read_fault(alloc, name),
+        Err(LoadError::TooLong { limit: _ }) => not_built(alloc),
+        Err(LoadError::NoMemory) => Err(NoMemory),
+    }
+}
+
+/// What a command answers.
+pub fn decide<D: Desk>(alloc: Global, command: Command<'_>, desk: &mut D) -> Result<Reply, NoMemory>
+    ensures { IfOk result (λ reply. Says (D.file desk.old)
+        (λ name. Rose (D.faults desk.old name) (D.faults desk.new name)) (said_by command.entry) (answer_of reply)) }
+{
+    match command {
+        Command::Compile(name) => compile_file(alloc, desk, name),
+        Command::NotBuilt => not_built(alloc),
+        Command::Usage => usage(alloc),
+    }
+}

@@ -1,0 +1,20 @@
+//! The command: words in, a status out, with what was written on the way.
+//!
+//! `plcx` is all that the program does. Its clauses say, for every desk and every two sinks, which status comes
+//! when and what each sink got, and that the text of a diagram, read back, does what the diagram does.
+#![tactic(auto)]
+
+mod command;
+mod compiling;
+mod deciding;
+mod finishing;
+mod law;
+mod reply;
+mod status;
+mod top;
+mod words;
+
+pub use law::one_text;
+pub use status::Status;
+pub use top::plcx;
+pub use words::Words;

@@ -1,0 +1,80 @@
+//! The top call.
+ghost use Rattle.plcx_io.specs.Counts.{Rose};
+ghost use Rattle.plcx_command.specs.Command.{command_of};
+ghost use Rattle.plcx_command.specs.Ends.{Ends, change};
+ghost use Rattle.plcx_command.specs.Headline.{CompilesExactly, RefusesUsage, RefusesNotBuilt, BlamesReads, BlamesWrites, TellsMemory, IsComplete};
+
+use crate::command::command_of;
+use crate::deciding::decide;
+use crate::finishing::{put, refuse};
+use crate::reply::Reply;
+use crate::status::{Refused, Status};
+use crate::words::Words;
+use plcx_io::{Desk, Sink};
+use std::alloc::Global;
+
+fn run<D: Desk, O: Sink, E: Sink>(
+    alloc: Global,
+    words: &Words,
+    desk: &mut D,
+    out: &mut O,
+    err: &mut E,
+) -> Status
+    ensures ends { Ends (D.file desk.old) (λ name. Rose (D.faults desk.old name) (D.faults desk.new name))
+        (command_of words.now) result
+        (change (O.written out.old) (O.written out.new) (O.faults out.old) (O.faults out.new))
+        (change (E.written err.old) (E.written err.new) (E.faults err.old) (E.faults err.new)) }
+{
+    match decide(alloc, command_of(words), desk) {
+        Ok(Reply::Output(bytes)) => put(&bytes, out, err),
+        Ok(Reply::Refusal(why, line)) => refuse(why, &line, out, err),
+        Err(_) => refuse(Refused::NoMemory, b"plcx: no memory\n", out, err),
+    }
+}
+
+/// All that the program does, for the words behind its name. No output is begun before it is whole.
+pub fn plcx<D: Desk, O: Sink, E: Sink>(
+    alloc: Global,
+    words: &Words,
+    desk: &mut D,
+    out: &mut O,
+    err: &mut E,
+) -> Status
+    ensures ends { Ends (D.file desk.old) (λ name. Rose (D.faults desk.old name) (D.faults desk.new name))
+        (command_of words.now) result
+        (change (O.written out.old) (O.written out.new) (O.faults out.old) (O.faults out.new))
+        (change (E.written err.old) (E.written err.new) (E.faults err.old) (E.faults err.new)) }
+
+    ensures compiles { CompilesExactly (D.file desk.old) (command_of words.now) result
+        (change (O.written out.old) (O.written out.new) (O.faults out.old) (O.faults out.new))
+        (change (E.written err.old) (E.written err.new) (E.faults err.old) (E.faults err.new)) }
+
+    ensures complete { IsComplete (D.file desk.old) (λ name. Rose (D.faults desk.old name) (D.faults desk.new name))
+        (command_of words.now) result
+        (change (O.written out.old) (O.written out.new) (O.faults out.old) (O.faults out.new))
+        (change (E.written err.old) (E.written err.new) (E.faults err.old) (E.faults err.new)) }
+
+    ensures usage { RefusesUsage (command_of words.now) result
+        (change (O.written out.old) (O.written out.new) (O.faults out.old) (O.faults out.new))
+        (change (E.written err.old) (E.written err.new) (E.faults err.old) (E.faults err.new)) }
+
+    ensures not_built { RefusesNotBuilt (D.file desk.old) (command_of words.now) result
+        (change (O.written out.old) (O.written out.new) (O.faults out.old) (O.faults out.new))
+        (change (E.written err.old) (E.written err.new) (E.faults err.old) (E.faults err.new)) }
+
+    ensures read_fault { BlamesReads (λ name. Rose (D.faults desk.old name) (D.faults desk.new name))
+        (command_of words.now) result
+        (change (O.written out.old) (O.written out.new) (O.faults out.old) (O.faults out.new))
+        (change (E.written err.old) (E.written err.new) (E.faults err.old) (E.faults err.new)) }
+
+    ensures write_fault { BlamesWrites (D.file desk.old) (λ name. Rose (D.faults desk.old name) (D.faults desk.new name))
+        (command_of words.now) result
+        (change (O.written out.old) (O.written out.new) (O.faults out.old) (O.faults out.new))
+        (change (E.written err.old) (E.written err.new) (E.faults err.old) (E.faults err.new)) }
+
+    ensures no_memory { TellsMemory result
+        (change (O.written out.old) (O.written out.new) (O.faults out.old) (O.faults out.new))
+        (change (E.written err.old) (E.written err.new) (E.faults err.old) (E.faults err.new)) }
+{
+    run(alloc, words, desk, out, err)
+}
