@@ -1,17 +1,25 @@
 -- Arguments whose type is known, and numbers that stay in their type.
-use Rattle.std.proofs.Common.{◌≡◌, ℕ, ◌≤◌, true, ℤ, pos, negsuc, refl, sym, ap, subst, ◌∙◌, length, List, slice_index_or, suc, arith}
+use Rattle.std.proofs.Common.{◌≡◌, ℕ, ◌≤◌, ◌<◌, ◌^◌, ◌-◌, Bool, true, false, ℤ, pos, negsuc, refl, sym, ap, subst, ◌∙◌, length, List, [], ◌∷◌, take, drop, get_or, slice_index_or, suc, ◌+◌, Ok, arith}
 use Rattle.std.proofs.Math.Nat.{mod-le}
 use Rattle.std.proofs.lemmas.Int.{ints}
-use Rattle.std.specs.Prelude.{unsigned_abs}
+use Rattle.std.proofs.lemmas.List.{take_all, length-drop}
+use Rattle.std.proofs.lemmas.List.Sums.{fold_more}
+use Rattle.std.proofs.lemmas.Nat.{pow_pos}
+use Rattle.std.specs.List.{fold}
+use Rattle.std.specs.Prelude.{unsigned_abs, EachIndex, ◌≤ℤ◌, if◌then◌else◌}
 use Rattle.plcx_types.specs.declared.ty.Ty.{Ty}
 use Rattle.plcx_types.specs.declared.ty.Ty.TheVariants as ty
-use Rattle.plcx_types.specs.Range.{InRange}
+use Rattle.plcx_types.specs.Range.{Bounds, InRange, bounds_of, unsigned}
 use Rattle.plcx_types.specs.TypeName.{all_types, place_of_type, same_ty}
 use Rattle.plcx_types.specs.Value.{Value}
+use Rattle.plcx_funcs.specs.declared.func.Func.{Func}
 use Rattle.plcx_funcs.specs.declared.func.Func.TheVariants as f
 use Rattle.plcx_funcs.specs.declared.allowed.Allowed.TheVariants as set
+use Rattle.plcx_funcs.specs.declared.pins.Class.{Class}
+use Rattle.plcx_funcs.specs.declared.pins.Class.TheVariants as class
 use Rattle.plcx_funcs.specs.Types.{is_allowed}
-use Rattle.plcx_funcs.specs.Applied.{FitsSignature, value_at, remainder, turned}
+use Rattle.plcx_funcs.specs.Pins.{least_inputs, input_class}
+use Rattle.plcx_funcs.specs.Applied.{FitsSignature, suits, value, value_at, width, bit_by_bit, both_bits, joined, remainder, turned, applied}
 use Rattle.plcx_funcs.proofs.Counts.{has_least}
 
 at_place : (t : Ty) → slice_index_or all_types (place_of_type t) ty.Bool ≡ t
@@ -36,20 +44,64 @@ one_type t u same =
     let place : place_of_type t ≡ place_of_type u = grind (arith, same) in
     sym (at_place u) ∙ ap (λ (i : ℕ). slice_index_or all_types i ty.Bool) (sym place) ∙ at_place t
 
--- the first arguments of MOD and of NOT have the type of the group
+-- the first argument of MOD has the type of the group
 pub first_of_mod : (t : Ty) (args : List Value) → FitsSignature f.Mod t args → (value_at args 0).ty ≡ t
 first_of_mod t args fit =
     let least : 2 ≤ length args = has_least f.Mod (length args) fit.count in
     one_type t (value_at args 0).ty (fit.types 0 (omega (arith, least)))
 
-pub first_of_not : (t : Ty) (args : List Value) → FitsSignature f.Not t args → (value_at args 0).ty ≡ t
-first_of_not t args fit =
-    let least : 1 ≤ length args = has_least f.Not (length args) fit.count in
-    one_type t (value_at args 0).ty (fit.types 0 (omega (arith, least)))
+-- the functions that join bits
+abbrev pub joins : Func → Bool
+joins f.And = true
+joins f.Or = true
+joins f.Xor = true
+joins _ = false
 
--- NOT takes BOOL and the bit strings
-pub bits_of_not : (t : Ty) (args : List Value) → FitsSignature f.Not t args → is_allowed set.Bits t ≡ true
-bits_of_not t args fit = fit.group
+-- the functions whose first argument is bits
+abbrev pub has_bits : Func → Bool
+has_bits f.Not = true
+has_bits f.Shl = true
+has_bits f.Shr = true
+has_bits f.Rol = true
+has_bits f.Ror = true
+has_bits g = joins g
+
+-- the type of their group is BOOL or a bit string
+pub bits_of_group : (g : Func) (t : Ty) (args : List Value) → FitsSignature g t args → has_bits g ≡ true → is_allowed set.Bits t ≡ true
+bits_of_group f.And t args fit h = fit.group
+bits_of_group f.Or t args fit h = fit.group
+bits_of_group f.Xor t args fit h = fit.group
+bits_of_group f.Not t args fit h = fit.group
+bits_of_group f.Shl t args fit h = grind (arith, fit.group)
+bits_of_group f.Shr t args fit h = grind (arith, fit.group)
+bits_of_group f.Rol t args fit h = grind (arith, fit.group)
+bits_of_group f.Ror t args fit h = grind (arith, fit.group)
+bits_of_group _ t args fit h = grind (arith, h)
+
+-- the first of their arguments has the type of the group
+first_of : (g : Func) (t : Ty) (args : List Value) → FitsSignature g t args → 1 ≤ least_inputs g → input_class g 0 ≡ class.Group → (value_at args 0).ty ≡ t
+first_of g t args fit some group =
+    let least : least_inputs g ≤ length args = has_least g (length args) fit.count in
+    let P : Class → Type 0 = λ k. suits k t (value_at args 0).ty ≡ true in
+    one_type t (value_at args 0).ty (subst P group (fit.types 0 (omega (arith, least, some))))
+
+pub first_of_bits : (g : Func) (t : Ty) (args : List Value) → FitsSignature g t args → has_bits g ≡ true → (value_at args 0).ty ≡ t
+first_of_bits f.And t args fit h = first_of f.And t args fit (omega arith) refl
+first_of_bits f.Or t args fit h = first_of f.Or t args fit (omega arith) refl
+first_of_bits f.Xor t args fit h = first_of f.Xor t args fit (omega arith) refl
+first_of_bits f.Not t args fit h = first_of f.Not t args fit (omega arith) refl
+first_of_bits f.Shl t args fit h = first_of f.Shl t args fit (omega arith) refl
+first_of_bits f.Shr t args fit h = first_of f.Shr t args fit (omega arith) refl
+first_of_bits f.Rol t args fit h = first_of f.Rol t args fit (omega arith) refl
+first_of_bits f.Ror t args fit h = first_of f.Ror t args fit (omega arith) refl
+first_of_bits _ t args fit h = grind (arith, h)
+
+-- and so have all where bits are joined
+pub all_of_bits : (g : Func) (t : Ty) (args : List Value) → FitsSignature g t args → joins g ≡ true → EachIndex args (λ i. (value_at args i).ty ≡ t)
+all_of_bits f.And t args fit h i within = one_type t (value_at args i).ty (fit.types i within)
+all_of_bits f.Or t args fit h i within = one_type t (value_at args i).ty (fit.types i within)
+all_of_bits f.Xor t args fit h i within = one_type t (value_at args i).ty (fit.types i within)
+all_of_bits _ t args fit h i within = grind (arith, h)
 
 -- a remainder lies between the first number and 0
 pub remainder_in_range : (t : Ty) (a b : ℤ) → InRange t a → InRange t (remainder a b)
@@ -102,3 +154,58 @@ turned_in_range ty.Uint n bits h = (grind (arith, ints), grind (arith, ints))
 turned_in_range ty.Udint n bits h = (grind (arith, ints), grind (arith, ints))
 turned_in_range ty.Ulint n bits h = (grind (arith, ints), grind (arith, ints))
 turned_in_range ty.Time n bits h = (grind (arith, ints), grind (arith, ints))
+
+-- the numbers of BOOL and of a bit string are those of its width
+bounds_of_bits : (t : Ty) → is_allowed set.Bits t ≡ true → bounds_of t ≡ unsigned (width t)
+bounds_of_bits ty.Bool bits = refl
+bounds_of_bits ty.Byte bits = refl
+bounds_of_bits ty.Word bits = refl
+bounds_of_bits ty.Dword bits = refl
+bounds_of_bits ty.Lword bits = refl
+bounds_of_bits _ bits = grind (arith, bits)
+
+pub bits_in_range : (t : Ty) (n : ℕ) → is_allowed set.Bits t ≡ true → n < 2 ^ width t → InRange t (pos n)
+bits_in_range t n bits below =
+    let P : Bounds → Type 0 = λ b. (b.low ≤ℤ pos n) × (pos n ≤ℤ b.high) in
+    subst P (sym (bounds_of_bits t bits)) (grind (arith, ints, below), grind (arith, ints, below))
+
+of_unsigned : (bits : ℕ) (n : ℤ) → pos 0 ≤ℤ n → n ≤ℤ pos (2 ^ bits - 1) → (unsigned_abs n < 2 ^ bits) × (pos (unsigned_abs n) ≡ n)
+of_unsigned bits (pos n) low high = let some = pow_pos bits in (grind (arith, ints, some), refl)
+of_unsigned bits (negsuc n) low high = grind (arith, ints, low)
+
+pub below_width : (t : Ty) (n : ℤ) → is_allowed set.Bits t ≡ true → InRange t n → (unsigned_abs n < 2 ^ width t) × (pos (unsigned_abs n) ≡ n)
+below_width t n bits range =
+    let P : Bounds → Type 0 = λ b. (b.low ≤ℤ n) × (n ≤ℤ b.high) in
+    let same : P (unsigned (width t)) = subst P (bounds_of_bits t bits) range in
+    of_unsigned (width t) n same.0 same.1
+
+-- what a conversion makes anew
+pub bit_in_range : (b : Bool) → InRange ty.Bool (if b then pos 1 else pos 0)
+bit_in_range true = (grind (arith, ints), grind (arith, ints))
+bit_in_range false = (grind (arith, ints), grind (arith, ints))
+
+-- the arguments behind the first have the type of all
+behind : (t : Ty) (args : List Value) → EachIndex args (λ i. (value_at args i).ty ≡ t) → EachIndex (drop 1 args) (λ i. (value_at (drop 1 args) i).ty ≡ t)
+behind t [] same i within = same i within
+behind t (v ∷ rest) same i within = same (suc i) (omega (arith, within))
+
+pub same_behind : (t : Ty) (args : List Value) → EachIndex args (λ i. (value_at args i).ty ≡ t) → EachIndex (take (length args - 1) (drop 1 args)) (λ i. (value_at (take (length args - 1) (drop 1 args)) i).ty ≡ t)
+same_behind t args same =
+    let whole = take_all (length args - 1) (drop 1 args) (omega (arith, length-drop 1 args)) in
+    let P : List Value → Type 0 = λ xs. EachIndex xs (λ i. (value_at xs i).ty ≡ t) in
+    subst P (sym whole) (behind t args same)
+
+-- one number more is joined
+pub one_joined : (g : Func) (first so_far bits : ℕ) (rest : List Value) (i : ℕ) (v : Value) → i < length rest → v ≡ get_or rest i v → pos bits ≡ v.n → pos so_far ≡ fold (λ n w. both_bits (bit_by_bit g) n w.n) (pos first) (take i rest) → pos (bit_by_bit g so_far bits) ≡ fold (λ n w. both_bits (bit_by_bit g) n w.n) (pos first) (take (i + 1) rest)
+one_joined g first so_far bits rest i v within item number before =
+    let step : ℤ → Value → ℤ = λ n w. both_bits (bit_by_bit g) n w.n in
+    let here : pos (bit_by_bit g so_far bits) ≡ step (pos so_far) v = ap (λ n. both_bits (bit_by_bit g) (pos so_far) n) number in
+    let more = fold_more step (pos first) rest i v within in
+    here ∙ ap (λ n. step n v) before ∙ ap (λ w. step (fold step (pos first) (take i rest)) w) item ∙ sym more
+
+-- AND, OR and XOR are one function of the operation on bits
+pub joins_bits : (g : Func) (t : Ty) (args : List Value) → joins g ≡ true → applied g t args ≡ Ok (value t (joined (both_bits (bit_by_bit g)) args))
+joins_bits f.And t args h = refl
+joins_bits f.Or t args h = refl
+joins_bits f.Xor t args h = refl
+joins_bits _ t args h = grind (arith, h)

@@ -114,16 +114,28 @@ width ty.Time = 64
 abbrev pub narrows : Ty → Ty → Bool
 narrows from to = is_word from && is_word to && nat_lt (width to) (width from)
 
--- the number that a conversion gives, before its range is tested
-abbrev pub converted : Ty → Ty → ℤ → ℤ
+-- what a conversion gives: only one that keeps the number has its range tested
+abbrev pub converted : Ty → Ty → ℤ → Result Value Fault
 converted from to n =
-    if is_bool to then (if is_zero n then pos 0 else pos 1)
-    else if narrows from to then pos (unsigned_abs n % 2 ^ width to)
-    else n
+    if is_bool to then Ok (value to (if is_zero n then pos 0 else pos 1))
+    else if narrows from to then Ok (value to (pos (unsigned_abs n % 2 ^ width to)))
+    else checked to n
 
--- two bit strings, bit by bit
+-- two numbers, bit by bit
+abbrev pub bit_by_bit : Func → ℕ → ℕ → ℕ
+bit_by_bit f.And a b = bit_and a b
+bit_by_bit f.Or a b = bit_or a b
+bit_by_bit f.Xor a b = bit_xor a b
+bit_by_bit _ a b = 0
+
+-- the same of two bit strings
 abbrev pub both_bits : (ℕ → ℕ → ℕ) → ℤ → ℤ → ℤ
 both_bits op a b = pos (op (unsigned_abs a) (unsigned_abs b))
+
+-- the numbers of the arguments joined from the left
+abbrev pub joined : (ℤ → ℤ → ℤ) → List Value → ℤ
+joined op [] = pos 0
+joined op (v ∷ rest) = fold (λ n w. op n w.n) v.n rest
 
 -- all bits turned
 abbrev pub turned : Ty → ℤ → ℤ
@@ -145,7 +157,7 @@ rotated_right bits n by = n / 2 ^ (by % bits) + (n % 2 ^ (by % bits)) * 2 ^ (bit
 
 -- moved by a number of places, Range below 0
 abbrev pub moved : (ℕ → ℕ → ℕ → ℕ) → Ty → ℤ → ℤ → Result Value Fault
-moved move t n (pos by) = checked t (pos (move (width t) (unsigned_abs n) by))
+moved move t n (pos by) = Ok (value t (pos (move (width t) (unsigned_abs n) by)))
 moved move t n (negsuc by) = Err fault.Range
 
 -- what a function gives, at the type of its group
@@ -157,9 +169,9 @@ applied f.Div t args = quotient t (number_at args 0) (number_at args 1)
 applied f.Mod t args = Ok (value t (remainder (number_at args 0) (number_at args 1)))
 applied f.Abs t args = checked t (pos (unsigned_abs (number_at args 0)))
 applied f.Move t args = Ok (value_at args 0)
-applied f.And t args = folded (both_bits bit_and) t args
-applied f.Or t args = folded (both_bits bit_or) t args
-applied f.Xor t args = folded (both_bits bit_xor) t args
+applied f.And t args = Ok (value t (joined (both_bits bit_and) args))
+applied f.Or t args = Ok (value t (joined (both_bits bit_or) args))
+applied f.Xor t args = Ok (value t (joined (both_bits bit_xor) args))
 applied f.Not t args = Ok (value t (turned t (number_at args 0)))
 applied f.Shl t args = moved shifted_left t (number_at args 0) (number_at args 1)
 applied f.Shr t args = moved shifted_right t (number_at args 0) (number_at args 1)
@@ -176,7 +188,7 @@ applied f.Eq t args = Ok (truth (all_agree f.Eq args))
 applied f.Le t args = Ok (truth (all_agree f.Le args))
 applied f.Lt t args = Ok (truth (all_agree f.Lt args))
 applied f.Ne t args = Ok (truth (all_agree f.Ne args))
-applied (f.Conv from to) t args = checked to (converted from to (number_at args 0))
+applied (f.Conv from to) t args = converted from to (number_at args 0)
 
 -- the group's type is one that the function takes; a conversion has no group
 abbrev pub takes : Func → Ty → Bool

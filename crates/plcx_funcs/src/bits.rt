@@ -1,64 +1,68 @@
 //! Bits: one by one, shifted and rotated.
-ghost use Rattle.std.specs.Prelude.{◌≡◌, true, ◌<◌, ◌^◌, pos, unsigned_abs, bit_and, bit_or, bit_xor};
+ghost use Rattle.std.specs.Prelude.{◌≡◌, true, ◌<◌, ◌≤◌, ◌^◌, pos, unsigned_abs, length, EachIndex};
+ghost use Rattle.std.specs.List.{fold};
 ghost use Rattle.plcx_types.specs.Range.{bounds_of};
 ghost use Rattle.plcx_funcs.specs.declared.allowed.Allowed.TheVariants as set;
 ghost use Rattle.plcx_funcs.specs.Types.{is_allowed};
-ghost use Rattle.plcx_funcs.specs.Applied.{value, checked, after, folded, both_bits, turned, moved, shifted_left, shifted_right, rotated_left, rotated_right};
+ghost use Rattle.plcx_funcs.specs.Applied.{value, value_at, width, bit_by_bit, both_bits, joined, turned, moved, shifted_left, shifted_right, rotated_left, rotated_right};
 
-use crate::arithmetic::checked;
+use crate::arithmetic::sure;
 use crate::converting::{power, width};
+use crate::func::Func;
 use plcx_types::{Fault, Ty, Val, default_of};
 
-#[tactic(auto, using(crate::proofs::Ranges::fits_wide))]
-fn natural(ty: Ty, n: u128) -> Result<Val, Fault>
-    ensures { result ≡ checked ty (pos n) }
+#[tactic(auto, using(crate::proofs::Kept::below_width, crate::proofs::Ranges::abs_below))]
+fn bits_of(ty: Ty, bits: Val) -> u128
+    requires same { bits.ty ≡ ty }
+    requires kind { is_allowed set.Bits ty ≡ true }
+    ensures value { pos result ≡ bits.n }
+    ensures below { result < 2 ^ width ty }
+    ensures most { result < 2 ^ 64 }
 {
-    match i128::try_from(n) {
-        Ok(n) => checked(ty, n),
-        Err(_) => Err(Fault::Range),
+    bits.n().unsigned_abs()
+}
+
+#[tactic(auto, using(crate::proofs::Kept::bits_in_range, crate::proofs::Ranges::abs_below))]
+pub(crate) fn of_bits(ty: Ty, bits: u128) -> Val
+    requires kind { is_allowed set.Bits ty ≡ true }
+    requires below { bits < 2 ^ width ty }
+    ensures { result ≡ value ty (pos bits) }
+{
+    sure(ty, bits as i128)
+}
+
+fn bit_by_bit(func: Func, a: u128, b: u128) -> u128
+    ensures { result ≡ bit_by_bit func a b }
+{
+    match func {
+        Func::And => a & b,
+        Func::Or => a | b,
+        Func::Xor => a ^ b,
+        _ => 0,
     }
 }
 
-fn after_and(ty: Ty, so_far: Result<Val, Fault>, value: Val) -> Result<Val, Fault>
-    ensures { result ≡ after (both_bits bit_and) ty so_far value }
+fn joined_from(func: Func, ty: Ty, first: u128, rest: &[Val]) -> u128
+    requires same { EachIndex rest.now (λ i. (value_at rest.now i).ty ≡ ty) }
+    requires kind { is_allowed set.Bits ty ≡ true }
+    requires below { first < 2 ^ width ty }
+    ensures value { pos result ≡ fold (λ n v. both_bits (bit_by_bit func) n v.n) (pos first) rest.now }
+    ensures below { result < 2 ^ width ty }
 {
-    natural(ty, so_far?.n().unsigned_abs() & value.n().unsigned_abs())
+    let mut bits = first;
+    for value in rest {
+        bits = bit_by_bit(func, bits, bits_of(ty, *value));
+    }
+    bits
 }
 
-pub(crate) fn and(ty: Ty, args: &[Val]) -> Result<Val, Fault>
-    ensures { result ≡ folded (both_bits bit_and) ty args.now }
+pub(crate) fn join(func: Func, ty: Ty, args: &[Val]) -> Val
+    requires some { 1 ≤ length args.now }
+    requires same { EachIndex args.now (λ i. (value_at args.now i).ty ≡ ty) }
+    requires kind { is_allowed set.Bits ty ≡ true }
+    ensures { result ≡ value ty (joined (both_bits (bit_by_bit func)) args.now) }
 {
-    let (first, rest) = args.split_first().ok_or(Fault::Range)?;
-    rest.iter()
-        .fold(Ok(*first), |so_far, value| after_and(ty, so_far, *value))
-}
-
-fn after_or(ty: Ty, so_far: Result<Val, Fault>, value: Val) -> Result<Val, Fault>
-    ensures { result ≡ after (both_bits bit_or) ty so_far value }
-{
-    natural(ty, so_far?.n().unsigned_abs() | value.n().unsigned_abs())
-}
-
-pub(crate) fn or(ty: Ty, args: &[Val]) -> Result<Val, Fault>
-    ensures { result ≡ folded (both_bits bit_or) ty args.now }
-{
-    let (first, rest) = args.split_first().ok_or(Fault::Range)?;
-    rest.iter()
-        .fold(Ok(*first), |so_far, value| after_or(ty, so_far, *value))
-}
-
-fn after_xor(ty: Ty, so_far: Result<Val, Fault>, value: Val) -> Result<Val, Fault>
-    ensures { result ≡ after (both_bits bit_xor) ty so_far value }
-{
-    natural(ty, so_far?.n().unsigned_abs() ^ value.n().unsigned_abs())
-}
-
-pub(crate) fn xor(ty: Ty, args: &[Val]) -> Result<Val, Fault>
-    ensures { result ≡ folded (both_bits bit_xor) ty args.now }
-{
-    let (first, rest) = args.split_first().ok_or(Fault::Range)?;
-    rest.iter()
-        .fold(Ok(*first), |so_far, value| after_xor(ty, so_far, *value))
+    of_bits(ty, joined_from(func, ty, bits_of(ty, args[0]), &args[1..]))
 }
 
 fn greatest(ty: Ty) -> i128
@@ -132,54 +136,62 @@ fn rotated_right(bits: u32, n: u128, by: u128) -> u128
     n / power(turn) + n % power(turn) * power(bits - turn)
 }
 
-pub(crate) fn shl(ty: Ty, n: i128, by: i128) -> Result<Val, Fault>
-    requires { unsigned_abs n < 2 ^ 64 }
-    ensures { result ≡ moved shifted_left ty n by }
+#[tactic(auto, using(crate::proofs::Below::shifted_left_below))]
+pub(crate) fn shl(ty: Ty, bits: Val, by: i128) -> Result<Val, Fault>
+    requires same { bits.ty ≡ ty }
+    requires kind { is_allowed set.Bits ty ≡ true }
+    ensures { result ≡ moved shifted_left ty bits.n by }
 {
     if by < 0 {
         return Err(Fault::Range);
     }
-    natural(
+    Ok(of_bits(
         ty,
-        shifted_left(width(ty), n.unsigned_abs(), by.unsigned_abs()),
-    )
+        shifted_left(width(ty), bits_of(ty, bits), by.unsigned_abs()),
+    ))
 }
 
-pub(crate) fn shr(ty: Ty, n: i128, by: i128) -> Result<Val, Fault>
-    requires { unsigned_abs n < 2 ^ 64 }
-    ensures { result ≡ moved shifted_right ty n by }
+#[tactic(auto, using(crate::proofs::Below::shifted_right_below))]
+pub(crate) fn shr(ty: Ty, bits: Val, by: i128) -> Result<Val, Fault>
+    requires same { bits.ty ≡ ty }
+    requires kind { is_allowed set.Bits ty ≡ true }
+    ensures { result ≡ moved shifted_right ty bits.n by }
 {
     if by < 0 {
         return Err(Fault::Range);
     }
-    natural(
+    Ok(of_bits(
         ty,
-        shifted_right(width(ty), n.unsigned_abs(), by.unsigned_abs()),
-    )
+        shifted_right(width(ty), bits_of(ty, bits), by.unsigned_abs()),
+    ))
 }
 
-pub(crate) fn rol(ty: Ty, n: i128, by: i128) -> Result<Val, Fault>
-    requires { unsigned_abs n < 2 ^ 64 }
-    ensures { result ≡ moved rotated_left ty n by }
+#[tactic(auto, using(crate::proofs::Below::rotated_left_below))]
+pub(crate) fn rol(ty: Ty, bits: Val, by: i128) -> Result<Val, Fault>
+    requires same { bits.ty ≡ ty }
+    requires kind { is_allowed set.Bits ty ≡ true }
+    ensures { result ≡ moved rotated_left ty bits.n by }
 {
     if by < 0 {
         return Err(Fault::Range);
     }
-    natural(
+    Ok(of_bits(
         ty,
-        rotated_left(width(ty), n.unsigned_abs(), by.unsigned_abs()),
-    )
+        rotated_left(width(ty), bits_of(ty, bits), by.unsigned_abs()),
+    ))
 }
 
-pub(crate) fn ror(ty: Ty, n: i128, by: i128) -> Result<Val, Fault>
-    requires { unsigned_abs n < 2 ^ 64 }
-    ensures { result ≡ moved rotated_right ty n by }
+#[tactic(auto, using(crate::proofs::Below::rotated_right_below))]
+pub(crate) fn ror(ty: Ty, bits: Val, by: i128) -> Result<Val, Fault>
+    requires same { bits.ty ≡ ty }
+    requires kind { is_allowed set.Bits ty ≡ true }
+    ensures { result ≡ moved rotated_right ty bits.n by }
 {
     if by < 0 {
         return Err(Fault::Range);
     }
-    natural(
+    Ok(of_bits(
         ty,
-        rotated_right(width(ty), n.unsigned_abs(), by.unsigned_abs()),
-    )
+        rotated_right(width(ty), bits_of(ty, bits), by.unsigned_abs()),
+    ))
 }

@@ -1,9 +1,10 @@
 //! Conversions between types.
-ghost use Rattle.std.specs.Prelude.{◌≡◌, ◌<◌, ◌≤◌, ◌^◌, ◌%◌, pos, unsigned_abs};
-ghost use Rattle.plcx_funcs.specs.Applied.{checked, width, narrows, converted};
+ghost use Rattle.std.specs.Prelude.{◌≡◌, ◌<◌, ◌≤◌, ◌^◌, ◌%◌, unsigned_abs};
+ghost use Rattle.plcx_funcs.specs.Applied.{width, narrows, converted};
 
 use crate::allowed::is_word;
-use crate::arithmetic::checked;
+use crate::arithmetic::{checked, sure};
+use crate::bits::of_bits;
 use plcx_types::{Fault, Ty, Val};
 
 pub(crate) fn width(ty: Ty) -> u32
@@ -35,27 +36,23 @@ pub(crate) fn power(bits: u32) -> u128
     2u128.pow(bits)
 }
 
-fn low_bits(n: i128, bits: u32) -> i128
+fn low_bits(n: i128, bits: u32) -> u128
     requires { bits < 65 }
-    ensures { result ≡ pos (unsigned_abs n % 2 ^ bits) }
+    ensures value { result ≡ unsigned_abs n % 2 ^ bits }
+    ensures below { result < 2 ^ bits }
 {
-    (n.unsigned_abs() % power(bits)) as i128
+    n.unsigned_abs() % power(bits)
 }
 
-fn converted(from: Ty, to: Ty, n: i128) -> i128
+#[tactic(auto, using(crate::proofs::Kept::bit_in_range))]
+pub(crate) fn convert(from: Ty, to: Ty, n: i128) -> Result<Val, Fault>
     ensures { result ≡ converted from to n }
 {
     if to == Ty::Bool {
-        i128::from(n != 0)
+        Ok(sure(to, i128::from(n != 0)))
     } else if narrows(from, to) {
-        low_bits(n, width(to))
+        Ok(of_bits(to, low_bits(n, width(to))))
     } else {
-        n
+        checked(to, n)
     }
-}
-
-pub(crate) fn convert(from: Ty, to: Ty, n: i128) -> Result<Val, Fault>
-    ensures { result ≡ checked to (converted from to n) }
-{
-    checked(to, converted(from, to, n))
 }

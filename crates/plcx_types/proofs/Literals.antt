@@ -52,7 +52,7 @@ no_truth text n (binary is) = refl
 no_truth text n (octal is) = refl
 no_truth text n (hexadecimal is) = refl
 
-number_reads : (t : Ty) (text : List ℕ) (n : ℤ) → IsNumber t text n → number_behind t text ≡ Some n
+pub number_reads : (t : Ty) (text : List ℕ) (n : ℤ) → IsNumber t text n → number_behind t text ≡ Some n
 unfolding number_behind
 number_reads t text n (form.truth form.IsTruth.truth) = refl
 number_reads t text n (form.truth form.falsehood) = refl
@@ -119,7 +119,7 @@ literal_reads text l (form.typed {t = t} {text = rest} {n = n} is range) = name_
 literal_reads text l (short_time {text = rest} {n = n} is range) = short_found rest ∙ typed_reads ty.Time rest n (form.time is) range
 
 -- what was read
-truth_is : (text : List ℕ) (n : ℤ) → truth text ≡ Some n → IsTruth text n
+pub truth_is : (text : List ℕ) (n : ℤ) → truth text ≡ Some n → IsTruth text n
 truth_is text n found = elim (cases_Bool (bytes_eq text (codes "true"))) [
   | inl right ↦
       let is : Some (pos 1) ≡ Some n = rw right at found in
@@ -141,7 +141,7 @@ truth_or_whole text n found = go (truth text) refl found
     go None is found = form.IsNumber.whole refl (whole_is text n found)
     go (Some m) is found = form.truth (truth_is text n (is ∙ found))
 
-number_is : (t : Ty) (text : List ℕ) (n : ℤ) → number_behind t text ≡ Some n → IsNumber t text n
+pub number_is : (t : Ty) (text : List ℕ) (n : ℤ) → number_behind t text ≡ Some n → IsNumber t text n
 unfolding number_behind
 number_is t text n found = elim (cases_Bool (same_ty t ty.Time)) [
   | inl is_time ↦ subst (λ u. IsNumber u text n) (sym (same_is t ty.Time is_time)) (form.time (time_is text n (rw is_time at found)))

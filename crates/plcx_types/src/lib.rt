@@ -20,7 +20,7 @@ mod val;
 pub use fault::Fault;
 pub use ident::{Ident, IdentError, is_identifier, same_name};
 pub use law::{one_literal, printed_is_read, types_by_name};
-pub use literal::{Literal, NotLiteral, read_literal, read_value};
+pub use literal::{Literal, NotLiteral, read_literal, read_number, read_value};
 pub use memory::NoMemory;
 pub use print::print_literal;
 pub use reserved::{is_keyword, is_listed, is_reserved};

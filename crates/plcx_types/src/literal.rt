@@ -8,7 +8,7 @@ ghost use Rattle.plcx_types.specs.TypeName.{all_types};
 ghost use Rattle.plcx_types.specs.Literal.{value, type_word, StandsFor, StandsForValue};
 ghost use Rattle.plcx_types.specs.ReadLiteral.{truth, number_behind, of_type, typed, behind_name, typed_or_whole, timed_or_other, literal_of};
 ghost use Rattle.plcx_types.specs.Value.{Value};
-ghost use Rattle.plcx_types.specs.Literal.{IsValueOf};
+ghost use Rattle.plcx_types.specs.Literal.{IsValueOf, IsNumber};
 ghost use Rattle.plcx_types.specs.declared.literal.Literal.{Literal};
 ghost use Rattle.plcx_types.specs.declared.literal.Literal.TheVariants.{Whole};
 
@@ -73,6 +73,16 @@ fn number_behind(ty: Ty, text: &[u8]) -> Option<i128>
         Ty::Bool => truth(text).or(whole(text)),
         _ => whole(text),
     }
+}
+
+/// The number that a text stands for behind the name of a type and `#`; it may lie outside the type.
+#[tactic(auto, using(crate::proofs::Literals::number_reads, crate::proofs::Literals::number_is))]
+pub fn read_number(ty: Ty, text: &[u8]) -> Option<i128>
+    ensures value { result ≡ number_behind ty (folded text.now) }
+    ensures some { IfSome result (λ n. IsNumber ty (folded text.now) n) }
+    ensures none { IfNone result ((n : ℤ) → IsNumber ty (folded text.now) n → ⊥) }
+{
+    number_behind(ty, text)
 }
 
 #[tactic(auto, unfolding(crate::specs::ReadLiteral::of_type))]
