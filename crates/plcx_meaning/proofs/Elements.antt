@@ -1,83 +1,109 @@
--- An element, the elements of a network, and a body: the text does what the diagram does.
-use Rattle.std.proofs.Common.{◌≡◌, ℕ, ℤ, true, List, [], ◌∷◌, ◌++◌, refl, sym, ap, ◌∙◌}
-use Rattle.std.specs.List.{Contains, flat_map}
-use Rattle.std.proofs.lemmas.Bool.{and_from, not_from_false, eq-eqb}
-use Rattle.std.specs.Str.{bytes_eq}
-use Rattle.plcx_types.specs.Name.{folded}
-use Rattle.plcx_types.specs.TypeName.{same_ty, place_of_type}
-use Rattle.plcx_types.specs.declared.ty.Ty.{Ty}
+-- One element, and the elements of a network: the text does what the diagram does.
+use Rattle.std.proofs.Common.{◌≡◌, ℕ, ◌<◌, ◌^◌, true, List, [], ◌∷◌, ◌++◌, map, refl, sym, ap, ◌∙◌}
+use Rattle.std.specs.List.{Contains}
 use Rattle.plcx_types.specs.declared.ty.Ty.TheVariants as ty
-use Rattle.plcx_meaning.specs.Base.{Path, is_declared, put, changed, Each, Ended, then_do}
-use Rattle.plcx_meaning.specs.Diagram.{Source, Wire, Kind, In, Out, Element, Pou, Diagram, Wires, no_wires, source_value, kind_does, elements_do, body_does}
-use Rattle.plcx_meaning.specs.Text.{Expression, Name, Statement, Assign, PouText, Run, Frame, no_values, Temporary, Variable, place_of, Value, look, value_of, run_statement, run_statements, run_pou}
-use Rattle.plcx_meaning.specs.Templates.{wire_name, source_text, kind_text, element_text, network_text, pou_text}
-use Rattle.plcx_meaning.specs.Fits.{IsVariable, SourceFits, KindFits, done_after, ElementsFit, PouFits}
-use Rattle.plcx_meaning.proofs.Names.{own_folded}
-use Rattle.plcx_meaning.proofs.Declared.{bool_place, named_not_own}
-use Rattle.plcx_meaning.proofs.Wires.{AreWires, no_wire, element, wire_of_in, wires_after}
-use Rattle.plcx_meaning.proofs.Agree.{Agree, SameWires, Alike, both_end, alike_then, alike_as, alike_from, then_ended, then_then, then_ext, agree_set, wires_fix, none_same}
+use Rattle.plcx_types.specs.Name.{folded}
+use Rattle.plcx_funcs.specs.Applied.{value}
+use Rattle.plcx_meaning.specs.Base.{AtEdge, AtOutput, Each, Ended, then_do, not_if}
+use Rattle.plcx_meaning.specs.Layout.{Variable}
+use Rattle.plcx_meaning.specs.Functions.{Given}
+use Rattle.plcx_meaning.specs.Diagram.{Kind, Still, In, Out, Contact, Coil, Pass, Label, Jump, Return, Function, Call, Contacting, Open, Closed, RisingContact, FallingContact, Coiling, By, RisingCoil, FallingCoil, Link, Port, port, ports, has_edge, Element}
+use Rattle.plcx_meaning.specs.Evaluate.{Diagram, Wires, Called, Setting, set_memory, link_value, operand_leaf, kind_does, feed, element_does}
+use Rattle.plcx_meaning.specs.Execute.{Temporary, Kept, Here, place_of, Run, Frame, value_of, Invoked, run_list}
+use Rattle.plcx_meaning.specs.Templates.{wire_name, memory_name, wire, link_text, operand_text, kind_text, feed_text, element_text, elements_text}
+use Rattle.plcx_meaning.specs.Templates as templates
+use Rattle.plcx_meaning.specs.Same.{Agree}
+use Rattle.plcx_meaning.specs.Fits.{fixed_by, is_fresh}
+use Rattle.plcx_meaning.proofs.Lists.{each_at}
+use Rattle.plcx_meaning.proofs.Alike.{Alike, both_end, alike_then, alike_as}
+use Rattle.plcx_meaning.proofs.Asked.{IsDeclared, LinkAsked, KindAsked, OwnAsked, SameWires, CallsAlike, ElementsAlike}
+use Rattle.plcx_meaning.proofs.Agree.{agree_memory}
+use Rattle.plcx_meaning.proofs.Links.{assign_memory, negated_known, wire_known, operand_known, link_known}
+use Rattle.plcx_meaning.proofs.Simple.{contacts_edge, coils_edge, fix_alike, store_alike, contact_alike, coil_alike}
+use Rattle.plcx_meaning.proofs.Applying.{function_alike}
+use Rattle.plcx_meaning.proofs.Calling.{call_alike}
+use Rattle.plcx_meaning.proofs.BodiesSteps.{run_append}
 
--- statements in a row
-run_append : (a b : List Statement) (p : PouText) (path : Path) (g : Run) (f : Frame) → run_statements (a ++ b) p path g f ≡ then_do (run_statements a p path g f) (λ g' f'. run_statements b p path g' f')
-run_append [] b p path g f = refl
-run_append (s ∷ a) b p path g f =
-    then_ext (run_statement s p path g f) (λ g' f'. run_statements (a ++ b) p path g' f') (λ g' f'. then_do (run_statements a p path g' f') (λ h l. run_statements b p path h l)) (λ g' f'. run_append a b p path g' f')
-    ∙ sym (then_then (run_statement s p path g f) (λ g' f'. run_statements a p path g' f') (λ h l. run_statements b p path h l))
+contact_has : (how : Contacting) (operand : Rattle.plcx_meaning.specs.Diagram.Operand) (link : Link) → contacts_edge how ≡ has_edge (Contact how operand link)
+contact_has Open operand link = refl
+contact_has Closed operand link = refl
+contact_has RisingContact operand link = refl
+contact_has FallingContact operand link = refl
 
-same_type : (t : Ty) → same_ty t t ≡ true
-same_type t = eq-eqb (place_of_type t) (place_of_type t) refl
+coil_has : (how : Coiling) (x : List ℕ) (link : Link) → coils_edge how ≡ has_edge (Coil how x link)
+coil_has (By how) x link = refl
+coil_has RisingCoil x link = refl
+coil_has FallingCoil x link = refl
 
--- assignments whose value is known
-assign_temporary : (p : PouText) (path : Path) (g : Run) (f : Frame) (x : List ℕ) (e : Expression) (t : Ty) (v : ℤ) → place_of p x ≡ Temporary t → value_of e p path g.store f ≡ Value t v → run_statement (Assign x e) p path g f ≡ Ended g (changed bytes_eq f (folded x) v)
-assign_temporary p path g f x e t v place known = rw (known, place, same_type t)
+-- the wire of one of an element's outputs
+of_ports : (id : ℕ) (outs : List Port) (o : Port) (done : List (ℕ × Port)) (ws : Wires) (f : Frame) → SameWires (map (λ (p : Port). (id, p)) outs ++ done) ws f → Contains outs o → ws id o.pin ≡ f (folded (wire_name id o.pin))
+of_ports id outs o done ws f same there = each_at (λ (p : Port). ws id p.pin ≡ f (folded (wire_name id p.pin))) outs o (fronts outs same) there
+  where
+    fronts : (outs : List Port) → SameWires (map (λ (p : Port). (id, p)) outs ++ done) ws f → Each (λ (p : Port). ws id p.pin ≡ f (folded (wire_name id p.pin))) outs
+    fronts [] s = tt
+    fronts (p ∷ ps) s = (s.0, fronts ps s.1)
 
-assign_variable : (p : PouText) (path : Path) (g : Run) (f : Frame) (x : List ℕ) (e : Expression) (t : Ty) (v : ℤ) → place_of p x ≡ Variable t → value_of e p path g.store f ≡ Value t v → run_statement (Assign x e) p path g f ≡ Ended (record g { store = put g.store (folded x ∷ path) v }) f
-assign_variable p path g f x e t v place known = rw (known, place, same_type t)
+module _ (c : Here) (vs : List Variable) (called : Called) (call : Invoked) (site : IsDeclared c.site) (calls : CallsAlike vs called call) where
+  abbrev setting : Setting
+  setting = record { variables = vs; site = c.site; called = called }
 
--- the wires that are fixed behind a list of elements
-abbrev pub all_done : List Element → List ℕ → List ℕ
-all_done [] done = done
-all_done (e ∷ es) done = all_done es (done_after e done)
+  -- a link of truth values
+  truth_known : (done : List (ℕ × Port)) (link : Link) → LinkAsked c done link → link.ty ≡ ty.Bool → (d : Diagram) (ws : Wires) (g : Run) (f : Frame) → Agree d g → SameWires done ws f
+      → value_of (link_text link) c g.store f ≡ Given (value ty.Bool (link_value c.site.path d ws link))
+  truth_known done link asked is d ws g f a same = link_known c site done d ws g f a same link asked ∙ ap (λ u. Given (value u (link_value c.site.path d ws link))) is
 
-abbrev pub NoLocals : Unit {0} → Unit {0} → Type 0
-NoLocals u v = Unit {0}
+  kind_alike : (k : Kind) (id : ℕ) → id < 2 ^ 64 → (done : List (ℕ × Port)) → is_fresh id done ≡ true → KindAsked c vs done k → Each (λ (o : Port). place_of c (wire_name id o.pin) ≡ Temporary o.ty) (ports k)
+      → (has_edge k ≡ true → place_of c (memory_name (AtEdge id)) ≡ Kept ty.Bool) → (d : Diagram) (ws : Wires) (g : Run) (f : Frame) → Agree d g → SameWires done ws f
+      → Alike (SameWires (map (λ (o : Port). (id, o)) (ports k) ++ done)) (kind_does k id setting d ws) (run_list (kind_text k id) c call g f)
+  kind_alike Still id small done fresh asked places edge d ws g f a same = both_end a same
+  kind_alike (Label name) id small done fresh asked places edge d ws g f a same = both_end a same
+  kind_alike (In t negated operand) id small done fresh asked places edge d ws g f a same =
+      let n = d.store (operand_leaf vs c.site operand) in
+      fix_alike c vs call site id small (port [] t) (templates.not_if negated (operand_text operand)) (not_if negated n) done d ws g f places.0 a same
+      (negated_known c g.store f negated (operand_text operand) t n asked.1 (operand_known c vs d g f operand t a asked.0))
+  kind_alike (Out how x link) id small done fresh asked places edge d ws g f a same =
+      store_alike c vs call site how x link.ty (link_text link) (link_value c.site.path d ws link) done d ws g f asked.0 asked.1 a same (link_known c site done d ws g f a same link asked.2)
+  kind_alike (Contact how operand link) id small done fresh asked places edge d ws g f a same =
+      contact_alike c vs call site how id small operand (link_text link) (link_value c.site.path d ws link) done d ws g f places.0 (λ h. edge (sym (contact_has how operand link) ∙ h)) asked.0 a same
+      (truth_known done link asked.1.0 asked.1.1 d ws g f a same)
+  kind_alike (Coil how x link) id small done fresh asked places edge d ws g f a same =
+      coil_alike c vs call site how x id small (link_text link) (link_value c.site.path d ws link) done d ws g f places.0 (λ h. edge (sym (coil_has how x link) ∙ h)) asked.0 a same
+      (truth_known done link asked.1.0 asked.1.1 d ws g f a same)
+  kind_alike (Pass link) id small done fresh asked places edge d ws g f a same =
+      fix_alike c vs call site id small (port [] link.ty) (link_text link) (link_value c.site.path d ws link) done d ws g f places.0 a same (link_known c site done d ws g f a same link asked)
+  kind_alike (Jump label link) id small done fresh asked places edge d ws g f a same =
+      fix_alike c vs call site id small (port [] ty.Bool) (link_text link) (link_value c.site.path d ws link) done d ws g f places.0 a same (truth_known done link asked.0 asked.1 d ws g f a same)
+  kind_alike (Return link) id small done fresh asked places edge d ws g f a same =
+      fix_alike c vs call site id small (port [] ty.Bool) (link_text link) (link_value c.site.path d ws link) done d ws g f places.0 a same (truth_known done link asked.0 asked.1 d ws g f a same)
+  kind_alike (Function fn t enable links negated) id small done fresh asked places edge d ws g f a same =
+      function_alike c call site done d ws g a f same fn t enable links negated id small fresh asked.0 asked.1 asked.2 places
+  kind_alike (Call instance enable taken bound given) id small done fresh asked places edge d ws g f a same =
+      call_alike c vs called call site calls instance enable taken bound given id small done fresh asked.0 asked.1 places d ws g f a same
 
-abbrev Anything : Unit {0} → Frame → Type 0
-Anything u f = Unit {0}
+  -- what feeds back is remembered on both sides
+  feed_alike : (id : ℕ) → id < 2 ^ 64 → (outs : List Port) (fed : List Port) → Each (λ (o : Port). place_of c (wire_name id o.pin) ≡ Temporary o.ty) outs → Each (λ (o : Port). (place_of c (memory_name (AtOutput id o.pin)) ≡ Kept o.ty) × Contains outs o) fed
+      → (done : List (ℕ × Port)) (d : Diagram) (ws : Wires) (g : Run) (f : Frame) → Agree d g → SameWires (map (λ (o : Port). (id, o)) outs ++ done) ws f
+      → Alike (SameWires (map (λ (o : Port). (id, o)) outs ++ done)) (Ended (feed id fed c.site.path ws d) ws) (run_list (map (feed_text id) fed) c call g f)
+  feed_alike id small outs [] places asked done d ws g f a same = both_end a same
+  feed_alike id small outs (o ∷ fed) places asked done d ws g f a same =
+      let n = ws id o.pin in
+      let place = each_at _ outs o places asked.0.1 in
+      let equal = of_ports id outs o done ws f same asked.0.1 in
+      let known = wire_known c g.store f id o.pin o.ty place ∙ ap (λ m. Given (value o.ty m)) (sym equal) in
+      let first = assign_memory c call g f (AtOutput id o.pin) (wire id o.pin) o.ty n asked.0.0 known in
+      alike_as _ _ (ap (λ q. then_do q (run_list (map (feed_text id) fed) c call)) first)
+      (feed_alike id small outs fed places asked.1 done (set_memory d c.site.path (AtOutput id o.pin) n) ws _ f (agree_memory d g c.site.path (AtOutput id o.pin) n small a) same)
 
-module _ (p : Pou) (fits : PouFits p) (path : Path) (own : is_declared path ≡ true) where
-  declared : (x : List ℕ) → IsVariable p x → is_declared (folded x ∷ path) ≡ true
-  declared x is = and_from _ _ (not_from_false _ (own_folded x ∙ named_not_own p fits x is)) own
+  element_alike : (e : Element) (done : List (ℕ × Port)) → OwnAsked c e → is_fresh e.id done ≡ true → KindAsked c vs done e.kind → (d : Diagram) (ws : Wires) (g : Run) (f : Frame) → Agree d g → SameWires done ws f
+      → Alike (SameWires (fixed_by e ++ done)) (element_does e setting d ws) (run_list (element_text e) c call g f)
+  element_alike e done own fresh asked d ws g f a same =
+      alike_as _ _ (run_append (kind_text e.kind e.id) (map (feed_text e.id) e.fed) c call g f)
+      (alike_then _ _ _ _ (kind_alike e.kind e.id own.small done fresh asked own.wires own.edge d ws g f a same)
+      (λ d' ws' g' f' a' same'. feed_alike e.id own.small (ports e.kind) e.fed own.wires own.fed done d' ws' g' f' a' same'))
 
-  source_known : (s : Source) (done : List ℕ) → SourceFits done s → AreWires p done → (ws : Wires) (g : Run) (f : Frame) → SameWires done ws f → value_of (source_text s) (pou_text p) path g.store f ≡ Value ty.Bool (source_value s ws)
-  source_known (Wire id) done h all ws g f same =
-      ap (λ place. look place (wire_name id) path g.store f) (all id h).place ∙ ap (Value ty.Bool) (sym (same id h))
-
-  kind_alike : (k : Kind) (id : ℕ) (done : List ℕ) → Contains p.elements (element id k) → KindFits p done k → AreWires p done → (d : Diagram) (ws : Wires) (g : Run) (f : Frame) → Agree d g → SameWires done ws f → Alike (SameWires (done_after (element id k) done)) (kind_does k id path d ws) (run_statements (kind_text k id) (pou_text p) path g f)
-  kind_alike (In x) id done there h all d ws g f a same =
-      let one = wire_of_in p fits id x there in
-      let known : value_of (Name x) (pou_text p) path g.store f ≡ Value ty.Bool (g.store (folded x ∷ path)) = ap (λ place. look place x path g.store f) (bool_place p fits x h) in
-      alike_as _ _ (then_ended _ ∙ assign_temporary (pou_text p) path g f (wire_name id) (Name x) ty.Bool (g.store (folded x ∷ path)) one.place known)
-      (both_end (SameWires (id ∷ done)) _ _ _ _ a (wires_fix p done ws f id (d.store (folded x ∷ path)) (g.store (folded x ∷ path)) (a.stores (folded x ∷ path) (declared x h)) one all same))
-  kind_alike (Out x link) id done there h all d ws g f a same =
-      let v = source_value link.source ws in
-      alike_as _ _ (then_ended _ ∙ assign_variable (pou_text p) path g f x (source_text link.source) ty.Bool v (bool_place p fits x h.0) (source_known link.source done h.1 all ws g f same))
-      (both_end (SameWires done) _ _ _ _ (agree_set d g (folded x ∷ path) v v refl a) same)
-
-  pub elements_alike : (es : List Element) (done : List ℕ) → ElementsFit p done es → AreWires p done → (d : Diagram) (ws : Wires) (g : Run) (f : Frame) → Agree d g → SameWires done ws f → Alike (SameWires (all_done es done)) (elements_do es path d ws) (run_statements (network_text es) (pou_text p) path g f)
-  elements_alike [] done h all d ws g f a same = both_end (SameWires done) _ _ _ _ a same
-  elements_alike (e ∷ es) done h all d ws g f a same =
-      alike_as _ _ (run_append (element_text e) (network_text es) (pou_text p) path g f)
-      (alike_then _ _ _ _ (kind_alike e.kind e.id done h.0 h.1 all d ws g f a same)
-      (λ d' ws' g' f' a' same'. elements_alike es (done_after e done) h.2 (wires_after p fits e.kind e.id done h.0 all) d' ws' g' f' a' same'))
-
-  networks_alike : (ns : List (List Element)) → Each (ElementsFit p []) ns → (d : Diagram) (g : Run) (f : Frame) → Agree d g → Alike Anything (body_does ns path d) (run_statements (flat_map network_text ns) (pou_text p) path g f)
-  networks_alike [] h d g f a = both_end Anything _ _ _ _ a tt
-  networks_alike (es ∷ ns) h d g f a =
-      alike_as _ _ (run_append (network_text es) (flat_map network_text ns) (pou_text p) path g f)
-      (alike_then _ _ _ _ (elements_alike es [] h.0 (no_wire p) d no_wires g f a (none_same no_wires f)) (λ d' ws' g' f' a' same. networks_alike ns h.1 d' g' f' a'))
-
-  pub body_alike : (d : Diagram) (g : Run) → Agree d g → Alike NoLocals (body_does p.networks path d) (run_pou (pou_text p) path g)
-  body_alike d g a =
-      alike_from _ _ (sym (then_ended (body_does p.networks path d)))
-      (alike_then (body_does p.networks path d) _ (λ d' u. Ended d' u) _ (networks_alike p.networks fits.networks d g no_values a) (λ d' u g' f' a' r. both_end NoLocals _ _ _ _ a' tt))
+  pub elements_alike : ElementsAlike c vs called call
+  elements_alike done [] asked d ws g f a same = both_end a same
+  elements_alike done (e ∷ es) asked d ws g f a same =
+      alike_as _ _ (run_append (element_text e) (elements_text es) c call g f)
+      (alike_then _ _ _ _ (element_alike e done asked.0 asked.1 asked.2 d ws g f a same)
+      (λ d' ws' g' f' a' same'. elements_alike (fixed_by e ++ done) es asked.3 d' ws' g' f' a' same'))

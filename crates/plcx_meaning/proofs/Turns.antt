@@ -1,39 +1,53 @@
--- No statement makes more turns.
-use Rattle.std.proofs.Common.{ℕ, ℤ, ◌≤◌, Bool, true, false, cond, List, [], ◌∷◌, arith}
-use Rattle.plcx_types.specs.declared.ty.Ty.{Ty}
-use Rattle.plcx_types.specs.TypeName.{same_ty}
-use Rattle.plcx_meaning.specs.Base.{Path, Outcome, Ended, Stopped, Stuck, then_do}
-use Rattle.plcx_meaning.specs.Text.{Statement, Assign, PouText, Place, Temporary, Variable, Unknown, place_of, Run, Frame, no_values, Result, Value, Faulty, Missing, value_of, with_value, assign, run_statement, run_statements, run_pou}
+-- No piece of a scan makes more turns: what holds of the pieces of either side.
+use Rattle.std.proofs.Common.{◌≡◌, ◌≤◌, ℕ, zero, suc, Bool, true, false, Option, Some, None, refl, arith, if◌then◌else◌}
+use Rattle.plcx_meaning.specs.Base.{Stop, OutOfTurns, Outcome, Ended, Stopped, Stuck, then_do, spend, found}
 use Rattle.plcx_meaning.specs.Turns.{LeavesAtMost}
 
-then_leaves : {L K : Type 0} (n : ℕ) (o : Outcome Run L) (next : Run → L → Outcome Run K) → LeavesAtMost n o → ((g : Run) (l : L) → g.left ≤ n → LeavesAtMost n (next g l)) → LeavesAtMost n (then_do o next)
-then_leaves n (Ended g l) next h more = more g l h
-then_leaves n (Stopped s g) next h more = h
-then_leaves n Stuck next h more = tt
+pub record Lowers {G L : Type 0} (left : G → ℕ) (n : ℕ) (o : Outcome G L) : Type 0 where
+  pub is : LeavesAtMost left n o
 
-value_leaves : {L : Type 0} (n : ℕ) (r : Result) (g : Run) (next : Ty → ℤ → Outcome Run L) → g.left ≤ n → ((t : Ty) (v : ℤ) → LeavesAtMost n (next t v)) → LeavesAtMost n (with_value r g next)
-value_leaves n (Value t v) g next h more = more t v
-value_leaves n (Faulty f) g next h more = h
-value_leaves n Missing g next h more = tt
+module _ {G : Type 0} (left : G → ℕ) where
+  pub lowers_end : {L : Type 0} (n : ℕ) (g : G) (l : L) → left g ≤ n → Lowers left n (Ended g l)
+  lowers_end n g l h = record { is = h }
 
-test_leaves : {L : Type 0} (n : ℕ) (b : Bool) (g : Run) (l : L) → g.left ≤ n → LeavesAtMost n (cond b (Ended g l) Stuck)
-test_leaves n true g l h = h
-test_leaves n false g l h = tt
+  pub lowers_stop : {L : Type 0} (n : ℕ) (s : Stop) (g : G) → left g ≤ n → Lowers {L = L} left n (Stopped s g)
+  lowers_stop n s g h = record { is = h }
 
-assign_leaves : (n : ℕ) (place : Place) (x : List ℕ) (path : Path) (t : Ty) (v : ℤ) (g : Run) (f : Frame) → g.left ≤ n → LeavesAtMost n (assign place x path t v g f)
-assign_leaves n (Temporary u) x path t v g f h = test_leaves n (same_ty t u) g _ h
-assign_leaves n (Variable u) x path t v g f h = test_leaves n (same_ty t u) _ f h
-assign_leaves n Unknown x path t v g f h = tt
+  pub lowers_stuck : {L : Type 0} (n : ℕ) → Lowers {L = L} left n Stuck
+  lowers_stuck n = record { is = tt }
 
-statement_leaves : (n : ℕ) (s : Statement) (p : PouText) (path : Path) (g : Run) (f : Frame) → g.left ≤ n → LeavesAtMost n (run_statement s p path g f)
-statement_leaves n (Assign x e) p path g f h = value_leaves n (value_of e p path g.store f) g _ h (λ t v. assign_leaves n (place_of p x) x path t v g f h)
+  pub lowers_then : {L K : Type 0} (n : ℕ) (o : Outcome G L) (go : G → L → Outcome G K) → Lowers left n o → ((g : G) (l : L) → left g ≤ n → Lowers left n (go g l)) → Lowers left n (then_do o go)
+  lowers_then n (Ended g l) go a more = more g l a.is
+  lowers_then n (Stopped s g) go a more = record { is = a.is }
+  lowers_then n Stuck go a more = record { is = tt }
 
-statements_leave : (n : ℕ) (body : List Statement) (p : PouText) (path : Path) (g : Run) (f : Frame) → g.left ≤ n → LeavesAtMost n (run_statements body p path g f)
-statements_leave n [] p path g f h = h
-statements_leave n (s ∷ rest) p path g f h = then_leaves n (run_statement s p path g f) _ (statement_leaves n s p path g f h) (λ g' f' less. statements_leave n rest p path g' f' less)
+  pub lowers_more : {L : Type 0} (m n : ℕ) (o : Outcome G L) → m ≤ n → Lowers left m o → Lowers left n o
+  lowers_more m n (Ended g l) le a = let h = a.is in record { is = omega arith }
+  lowers_more m n (Stopped s g) le a = let h = a.is in record { is = omega arith }
+  lowers_more m n Stuck le a = record { is = tt }
 
-pub body_leaves : (body : List Statement) (p : PouText) (path : Path) (g : Run) (f : Frame) → LeavesAtMost g.left (run_statements body p path g f)
-body_leaves body p path g f = statements_leave g.left body p path g f (omega arith)
+  pub lowers_if : {L : Type 0} (n : ℕ) (b : Bool) (o p : Outcome G L) → Lowers left n o → Lowers left n p → Lowers left n (if b then o else p)
+  lowers_if n true o p h k = h
+  lowers_if n false o p h k = k
 
-pub pou_leaves : (p : PouText) (path : Path) (g : Run) → LeavesAtMost g.left (run_pou p path g)
-pou_leaves p path g = then_leaves g.left (run_statements p.body p path g no_values) _ (body_leaves p.body p path g no_values) (λ g' f less. less)
+  pub lowers_found : {A L : Type 0} (n : ℕ) (x : Option A) (go : A → Outcome G L) → ((a : A) → Lowers left n (go a)) → Lowers left n (found x go)
+  lowers_found n None go h = record { is = tt }
+  lowers_found n (Some a) go h = h a
+
+  pub lowers_spend : {L : Type 0} (m n : ℕ) (g : G) (go : ℕ → Outcome G L) → left g ≤ n → ((j : ℕ) → suc j ≤ m → Lowers left n (go j)) → Lowers left n (spend m g go)
+  lowers_spend zero n g go le h = record { is = le }
+  lowers_spend (suc m) n g go le h = h m (omega arith)
+
+  -- pieces that are the same where so many turns are left at most
+  pub spend_zero : {L : Type 0} (n : ℕ) (g : G) (go : ℕ → Outcome G L) → n ≤ 0 → spend n g go ≡ Stopped OutOfTurns g
+  spend_zero zero g go h = refl
+  spend_zero (suc n) g go h = absurd (omega arith)
+
+  pub spend_same : {L : Type 0} (n : ℕ) (g : G) (go to : ℕ → Outcome G L) → ((j : ℕ) → suc j ≤ n → go j ≡ to j) → spend n g go ≡ spend n g to
+  spend_same zero g go to h = refl
+  spend_same (suc n) g go to h = h n (omega arith)
+
+  pub then_same : {L K : Type 0} (j : ℕ) (o : Outcome G L) (go to : G → L → Outcome G K) → Lowers left j o → ((g : G) (l : L) → left g ≤ j → go g l ≡ to g l) → then_do o go ≡ then_do o to
+  then_same j (Ended g l) go to a same = same g l a.is
+  then_same j (Stopped s g) go to a same = refl
+  then_same j Stuck go to a same = refl

@@ -1,11 +1,105 @@
--- The leaves of a program: its variables, with what is said of each.
-use Rattle.std.specs.Prelude.{◌≡◌, ℕ, ℤ, pos, Bool, true, false, not, ◌&&◌, List, [], ◌∷◌, filter, if◌then◌else◌}
-use Rattle.std.specs.List.{list_any}
+-- What is declared at a path, and the leaves of a program.
+use Rattle.std.specs.Prelude.{◌≡◌, ℕ, zero, suc, ℤ, pos, Bool, true, false, not, ◌&&◌, ◌||◌, List, [], ◌∷◌, Option, Some, None, map, filter, if◌then◌else◌}
+use Rattle.std.specs.List.{flat_map}
+use Rattle.std.specs.Str.{bytes_eq}
 use Rattle.plcx_types.specs.declared.ty.Ty.{Ty}
 use Rattle.plcx_types.specs.Name.{folded}
 use Rattle.plcx_types.specs.Range.{InRange}
 use Rattle.plcx_types.specs.Reserved.{is_own}
-use Rattle.plcx_meaning.specs.Base.{Path, same_path, is_declared, Each}
+use Rattle.plcx_types.specs.TypeName.{type_named}
+use Rattle.plcx_types.specs.Value.{Value}
+use Rattle.plcx_std.specs.Kind.{kind_named}
+use Rattle.plcx_meaning.specs.Base.{Path, is_declared, Each}
+use Rattle.plcx_meaning.specs.Tree.{Class, Local, Input, Output, InOut, Temp, Mark, Plain, Constant, Retain, Declaration, Block}
+use Rattle.plcx_meaning.specs.Standard.{pin_blocks}
+
+-- a declaration with the class and the mark of its block
+pub record Variable : Type 0 where
+  pub class : Class
+  pub mark : Mark
+  pub name : List ℕ
+  -- the name of its type
+  pub ty : List ℕ
+  pub initial : Option Value
+
+abbrev pub variable : Class → Mark → Declaration → Variable
+variable class mark d = record { class = class; mark = mark; name = d.name; ty = d.ty; initial = d.initial }
+
+abbrev pub block_variables : Block → List Variable
+block_variables b = map (variable b.class b.mark) b.declarations
+
+abbrev pub variables_of : List Block → List Variable
+variables_of blocks = flat_map block_variables blocks
+
+-- the variable of this name without case, the first where it is declared twice
+abbrev pub variable_named : List ℕ → List Variable → Option Variable
+variable_named key [] = None
+variable_named key (v ∷ vs) = if bytes_eq (folded v.name) key then Some v else variable_named key vs
+
+-- the blocks of the function blocks of a project or a unit, by their names without case
+abbrev pub World : Type 0
+World = List ℕ → List Block
+
+-- what the name of a type stands for: an elementary type, or variables, those of a standard block or of one of the world
+pub data Meaning : Type 0 where
+  Elementary : Ty → Meaning
+  Composed : List Variable → Meaning
+
+abbrev pub composed : World → List ℕ → List Variable
+composed world name = elim (kind_named name) [ Some k ↦ variables_of (pin_blocks k) | None ↦ variables_of (world (folded name)) ]
+
+abbrev pub meaning : World → List ℕ → Meaning
+meaning world name = elim (type_named name) [ Some t ↦ Elementary t | None ↦ Composed (composed world name) ]
+
+-- the variables within a variable, if it is an instance
+abbrev pub parts : Meaning → List Variable
+parts (Elementary t) = []
+parts (Composed vs) = vs
+
+abbrev pub parts_of : World → Option Variable → List Variable
+parts_of world None = []
+parts_of world (Some v) = parts (meaning world v.ty)
+
+-- the variables of a program, and what its types stand for
+pub record Scope : Type 0 where
+  pub world : World
+  pub own : List Variable
+
+-- the variables of the instance at a path
+abbrev pub variables_at : Scope → Path → List Variable
+variables_at c [] = c.own
+variables_at c (x ∷ p) = parts_of c.world (variable_named x (variables_at c p))
+
+-- the variable at a path
+abbrev pub variable_at : Scope → Path → Option Variable
+variable_at c [] = None
+variable_at c (x ∷ p) = variable_named x (variables_at c p)
+
+abbrev pub initial_value : Option Value → ℤ
+initial_value None = pos 0
+initial_value (Some v) = v.n
+
+abbrev pub initial_of : Option Variable → ℤ
+initial_of None = pos 0
+initial_of (Some v) = initial_value v.initial
+
+-- the initial value at a path, 0 where none is given
+abbrev pub initial_at : Scope → Path → ℤ
+initial_at c p = initial_of (variable_at c p)
+
+abbrev pub is_retain : Mark → Bool
+is_retain Plain = false
+is_retain Constant = false
+is_retain Retain = true
+
+abbrev pub is_marked : Option Variable → Bool
+is_marked None = false
+is_marked (Some v) = is_retain v.mark
+
+-- a declaration on the path stands in a block of retained variables
+abbrev pub is_retained : Scope → Path → Bool
+is_retained c [] = false
+is_retained c (x ∷ p) = is_retained c p || is_marked (variable_at c (x ∷ p))
 
 pub record Leaf : Type 0 where
   pub path : Path
@@ -15,22 +109,46 @@ pub record Leaf : Type 0 where
   pub settable : Bool
   pub shown : Bool
 
--- the leaf of a variable; one of the compiler's own is neither settable nor shown
-abbrev pub variable_leaf : List ℕ → Ty → Leaf
-variable_leaf name t = record { path = folded name ∷ []; ty = t; initial = pos 0; retained = false; settable = not (is_own name); shown = not (is_own name) }
+abbrev pub is_constant : Mark → Bool
+is_constant Plain = false
+is_constant Constant = true
+is_constant Retain = false
 
--- the initial value at a path, 0 where there is no leaf
-abbrev pub initial_at : List Leaf → Path → ℤ
-initial_at [] p = pos 0
-initial_at (leaf ∷ leaves) p = if same_path p leaf.path then leaf.initial else initial_at leaves p
+-- a leaf of the program itself, and no variable of the compiler's own
+abbrev pub is_outside : Path → Bool
+is_outside [] = false
+is_outside (x ∷ []) = not (is_own x)
+is_outside (x ∷ y ∷ p) = false
 
--- the leaf at a path is kept over a warm restart
-abbrev pub retains : List Leaf → Path → Bool
-retains leaves p = list_any (λ (leaf : Leaf). same_path p leaf.path && leaf.retained) leaves
+abbrev pub leaf_of : Scope → Path → Ty → Mark → Leaf
+leaf_of c p t mark = record { path = p; ty = t; initial = initial_at c p; retained = is_retained c p; settable = is_outside p && not (is_constant mark); shown = is_outside p }
+
+-- a variable that has a value of its own for as long as its instance: no in-out and no temporary
+abbrev pub is_kept : Class → Bool
+is_kept Local = true
+is_kept Input = true
+is_kept Output = true
+is_kept InOut = false
+is_kept Temp = false
+
+-- the leaves of a variable of the instance at a path; inner gives those of the variables of an instance
+abbrev pub variable_leaves : (Path → List Variable → List Leaf) → Scope → Path → Variable → List Leaf
+variable_leaves inner c p v = if is_kept v.class
+    then (elim (meaning c.world v.ty) [ Elementary t ↦ leaf_of c (folded v.name ∷ p) t v.mark ∷ [] | Composed vs ↦ inner (folded v.name ∷ p) vs ])
+    else []
+
+-- the leaves of variables in their order, those of an instance in its place, so many levels deep
+abbrev pub leaves : ℕ → Scope → Path → List Variable → List Leaf
+leaves zero c p vs = []
+leaves (suc n) c p vs = flat_map (variable_leaves (leaves n c) c p) vs
+
+-- a program has 16 levels of instances at most, and a standard block below them
+abbrev pub layout : Scope → List Leaf
+layout c = leaves 18 c [] c.own
 
 -- the leaves that a declaration made, in order
 abbrev pub declared_leaves : List Leaf → List Leaf
-declared_leaves leaves = filter (λ (leaf : Leaf). is_declared leaf.path) leaves
+declared_leaves ls = filter (λ (leaf : Leaf). is_declared leaf.path) ls
 
 -- what is settable or shown is declared
 abbrev pub IsOutside : Leaf → Type 0
@@ -38,16 +156,16 @@ IsOutside leaf = (leaf.settable ≡ true → is_declared leaf.path ≡ true) × 
 
 -- a value of its type for each retained leaf
 abbrev pub IsRetainedState : List Leaf → (Path → ℤ) → Type 0
-IsRetainedState leaves kept = Each (λ (leaf : Leaf). leaf.retained ≡ true → InRange leaf.ty (kept leaf.path)) (declared_leaves leaves)
+IsRetainedState ls kept = Each (λ (leaf : Leaf). leaf.retained ≡ true → InRange leaf.ty (kept leaf.path)) (declared_leaves ls)
 
 -- the initial values, and the retained state over them
-abbrev pub begun : List Leaf → (Path → ℤ) → Path → ℤ
-begun leaves kept p = if is_declared p && retains leaves p then kept p else initial_at leaves p
+abbrev pub begun : Scope → (Path → ℤ) → Path → ℤ
+begun c kept p = if is_declared p && is_retained c p then kept p else initial_at c p
 
 -- a warm restart gives each leaf that isn't retained its initial value, a cold one each leaf
 pub data Restart : Type 0 where
   Warm Cold : Restart
 
-abbrev pub restarted : List Leaf → Restart → (Path → ℤ) → Path → ℤ
-restarted leaves Warm s p = if retains leaves p then s p else initial_at leaves p
-restarted leaves Cold s p = initial_at leaves p
+abbrev pub restarted : Scope → Restart → (Path → ℤ) → Path → ℤ
+restarted c Warm s p = if is_retained c p then s p else initial_at c p
+restarted c Cold s p = initial_at c p

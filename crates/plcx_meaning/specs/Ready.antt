@@ -1,41 +1,119 @@
--- Which units are ready to run: each name is declared once and known, and each value has the type of its target.
-use Rattle.std.specs.Prelude.{◌≡◌, ◌≤◌, true, false, List, Option, Some, None, map, length}
+-- Which units are ready to run: each name is declared once and known, each value has the type of what it goes to, no chain of instances is too
+-- long, and each literal lies in its type.
+use Rattle.std.specs.Prelude.{◌≡◌, ◌≢◌, ◌≤◌, ℕ, zero, suc, Bool, true, false, ◌||◌, is_some, List, [], ◌∷◌, Option, Some, None, map, if◌then◌else◌}
+use Rattle.std.specs.List.{sum_by}
 use Rattle.plcx_types.specs.declared.ty.Ty.{Ty}
+use Rattle.plcx_types.specs.declared.ty.Ty.TheVariants as ty
 use Rattle.plcx_types.specs.Name.{folded}
-use Rattle.plcx_types.specs.TypeName.{type_named}
+use Rattle.plcx_types.specs.Range.{InRange}
 use Rattle.plcx_types.specs.Reserved.{is_listed}
-use Rattle.plcx_meaning.specs.Base.{Each, are_distinct}
-use Rattle.plcx_meaning.specs.Text.{Expression, Name, Statement, Assign, Declaration, PouText, Place, Temporary, Variable, Unknown, place_of, layout_of}
-use Rattle.std.specs.List.{flat_map}
+use Rattle.plcx_types.specs.TypeName.{type_named}
+use Rattle.plcx_types.specs.Value.{Value}
+use Rattle.plcx_std.specs.Kind.{kind_named}
+use Rattle.plcx_meaning.specs.Base.{Each, are_distinct, all_differ}
+use Rattle.plcx_meaning.specs.Tree.{PouKind, Program, Local, InOut, Constant, Expression, Name, Argument, Statement, Assign, Call, If, While, Case, Statements, no_statement, statement, Arms, no_arm, arm, PouText}
+use Rattle.plcx_meaning.specs.Layout.{Variable, variables_of, World, Elementary, Composed, meaning, parts_of, Scope, is_kept}
+use Rattle.plcx_meaning.specs.Execute.{Instance, place, Formal, Takes, Binds, NoFormal, formal, all_bound, block_named, world_of, scope_of}
+use Rattle.plcx_meaning.specs.Typed.{variable_in, part_in, expression_type, IsInRange, can_store, can_bind}
 
--- the type of what a name means
-abbrev pub place_type : Place → Option Ty
-place_type (Temporary t) = Some t
-place_type (Variable t) = Some t
-place_type Unknown = None
+-- the expression has the type, and its literals lie in theirs
+pub record HasType (c : Scope) (e : Expression) (t : Ty) : Type 0 where
+  pub typed : expression_type c e ≡ Some t
+  pub range : IsInRange e
 
-abbrev pub expression_type : PouText → Expression → Option Ty
-expression_type p (Name x) = place_type (place_of p x)
+-- the name means a variable of the type that passes the test
+pub record IsVariable (c : Scope) (x : List ℕ) (t : Ty) (test : Variable → Bool) : Type 0 where
+  pub variable : Variable
+  pub found : variable_in c x ≡ Some variable
+  pub typed : type_named variable.ty ≡ Some t
+  pub passes : test variable ≡ true
 
--- the value has the type of the target
-abbrev pub StatementIsReady : PouText → Statement → Type 0
-StatementIsReady p (Assign x e) = (t : Ty) × (place_type (place_of p x) ≡ Some t) × (expression_type p e ≡ Some t)
+-- an in-out takes a name alone
+abbrev pub IsBinding : Scope → Expression → Ty → Type 0
+IsBinding c (Name x) t = IsVariable c x t can_bind
+IsBinding c _ t = ⊥
 
--- all that a POU declares, in order
-abbrev pub declarations_of : PouText → List Declaration
-declarations_of p = flat_map (λ b. b.declarations) p.blocks
+-- the value of an argument suits what its formal name is
+abbrev pub ValueIsReady : Scope → Expression → Formal → Type 0
+ValueIsReady c e (Takes t) = HasType c e t
+ValueIsReady c e (Binds t) = IsBinding c e t
+ValueIsReady c e NoFormal = ⊥
 
-abbrev pub HasType : Declaration → Type 0
-HasType d = (t : Ty) × (type_named d.ty ≡ Some t)
+-- an instance is called: each formal name is known, none stands twice, and each in-out of the block has an argument
+pub record CallIsReady (c : Scope) (i : List ℕ) (args : List Argument) : Type 0 where
+  pub type : List ℕ
+  pub instance : place c.world (variable_in c i) ≡ Instance type
+  pub distinct : are_distinct (map (λ (a : Argument). folded a.formal) args) ≡ true
+  pub values : Each (λ (a : Argument). ValueIsReady c a.value (formal c.world (part_in c i a.formal))) args
+  pub bound : all_bound args (parts_of c.world (variable_in c i)) ≡ true
 
-pub record PouIsReady (p : PouText) : Type 0 where
-  pub names : are_distinct (map (λ (d : Declaration). folded d.name) (declarations_of p)) ≡ true
-  pub free : Each (λ (d : Declaration). is_listed d.name ≡ false) (declarations_of p)
-  pub types : Each HasType (declarations_of p)
-  pub statements : Each (StatementIsReady p) p.body
-  pub size : length (layout_of p) ≤ 8388608
+abbrev pub labels : Arms → List ℕ
+labels no_arm = []
+labels (arm n ss rest) = n ∷ labels rest
+
+-- a label is a number of DINT
+abbrev pub IsLabel : ℕ → Type 0
+IsLabel n = n ≤ 2147483647
+
+abbrev mutual
+  pub StatementIsReady : Scope → Statement → Type 0
+  StatementIsReady c (Assign x e) = (t : Ty) × IsVariable c x t can_store × HasType c e t
+  StatementIsReady c (Call i args) = CallIsReady c i args
+  StatementIsReady c (If e ss) = HasType c e ty.Bool × StatementsAreReady c ss
+  StatementIsReady c (While e ss) = HasType c e ty.Bool × StatementsAreReady c ss
+  StatementIsReady c (Case e arms) = HasType c e ty.Dint × Each IsLabel (labels arms) × (all_differ (labels arms) ≡ true) × ArmsAreReady c arms
+
+  pub StatementsAreReady : Scope → Statements → Type 0
+  StatementsAreReady c no_statement = Unit {0}
+  StatementsAreReady c (statement s ss) = StatementIsReady c s × StatementsAreReady c ss
+
+  pub ArmsAreReady : Scope → Arms → Type 0
+  ArmsAreReady c no_arm = Unit {0}
+  ArmsAreReady c (arm n ss rest) = StatementsAreReady c ss × ArmsAreReady c rest
+
+-- a type that a variable may have: an elementary one, a standard block, or a function block of the unit
+abbrev pub is_known : List PouText → List ℕ → Bool
+is_known unit type = is_some (type_named type) || (is_some (kind_named type) || is_some (block_named type unit))
+
+-- an initial value is one of the variable's type, which is elementary
+abbrev pub InitialIsReady : Variable → Type 0
+InitialIsReady v = (value : Value) → v.initial ≡ Some value → (type_named v.ty ≡ Some value.ty) × InRange value.ty value.n
+
+pub record VariableIsReady (unit : List PouText) (kind : PouKind) (v : Variable) : Type 0 where
+  pub free : is_listed v.name ≡ false
+  pub known : is_known unit v.ty ≡ true
+  pub initial : InitialIsReady v
+  -- an instance stands in a VAR that is plain or retained
+  pub instance : type_named v.ty ≡ None → (v.class ≡ Local) × (v.mark ≢ Constant)
+  -- a program has no in-out
+  pub in_out : v.class ≡ InOut → kind ≢ Program
+
+-- the function block of the unit that a variable is an instance of
+abbrev pub user_block : List PouText → Variable → Option PouText
+user_block unit v = if is_some (type_named v.ty) || is_some (kind_named v.ty) then None else block_named v.ty unit
+
+-- a chain of instances of the unit's function blocks, each declared in the block of the one before, is at most so long
+abbrev pub Nests : ℕ → List PouText → PouText → Type 0
+Nests zero unit p = Each (λ (v : Variable). user_block unit v ≡ None) (variables_of p.blocks)
+Nests (suc n) unit p = Each (λ (v : Variable). (q : PouText) → user_block unit v ≡ Some q → Nests n unit q) (variables_of p.blocks)
+
+-- how many leaves and instances a variable has, itself among them
+abbrev pub variable_size : (List Variable → ℕ) → World → Variable → ℕ
+variable_size inner world v = if is_kept v.class then (elim (meaning world v.ty) [ Elementary t ↦ 1 | Composed vs ↦ suc (inner vs) ]) else 0
+
+-- and all these variables, so many levels deep
+abbrev pub size : ℕ → World → List Variable → ℕ
+size zero world vs = 0
+size (suc n) world vs = sum_by (variable_size (size n world) world) vs
+
+pub record PouIsReady (unit : List PouText) (p : PouText) : Type 0 where
+  pub free : is_listed p.name ≡ false
+  pub distinct : are_distinct (map (λ (v : Variable). folded v.name) (variables_of p.blocks)) ≡ true
+  pub variables : Each (VariableIsReady unit p.kind) (variables_of p.blocks)
+  pub body : Each (StatementIsReady (scope_of unit p)) p.body
+  pub nests : Nests 16 unit p
+  pub small : size 18 (world_of unit) (variables_of p.blocks) ≤ 8388608
 
 pub record IsReady (unit : List PouText) : Type 0 where
-  pub names : are_distinct (map (λ (p : PouText). folded p.name) unit) ≡ true
-  pub free : Each (λ (p : PouText). is_listed p.name ≡ false) unit
-  pub pous : Each PouIsReady unit
+  pub distinct : are_distinct (map (λ (p : PouText). folded p.name) unit) ≡ true
+  pub pous : Each (PouIsReady unit) unit

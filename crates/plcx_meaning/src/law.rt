@@ -1,17 +1,27 @@
 //! Laws of the definitions, each on a function of its own.
-ghost use Rattle.std.specs.Prelude.{◌≡◌, ◌≢◌, ℕ, ℤ, pos, List, [], ◌∷◌, Some, true, codes};
-ghost use Rattle.plcx_meaning.specs.Base.{Path, Stuck, Each};
-ghost use Rattle.plcx_meaning.specs.Layout.{IsOutside};
-ghost use Rattle.plcx_meaning.specs.Run.{Input, Scan, Machine, Side, after};
-ghost use Rattle.plcx_meaning.specs.Diagram.{Diagram, Project, diagram_machine};
-ghost use Rattle.plcx_meaning.specs.Text.{PouText, Statement, Run, Frame, run_statements, run_pou, layout_of, text_machine, program_named};
-ghost use Rattle.plcx_meaning.specs.Turns.{LeavesAtMost};
+ghost use Rattle.std.specs.Prelude.{◌≡◌, ◌+◌, ℕ, ℤ, Bool, List, Some, true, slice_get, if◌then◌else◌};
+ghost use Rattle.plcx_meaning.specs.Base.{Path, Site, Outcome, Ended, then_do, spend, Each};
+ghost use Rattle.plcx_meaning.specs.Tree.{Expression, Statement, While, Statements, PouText};
+ghost use Rattle.plcx_meaning.specs.Layout.{Variable, Scope, layout, IsOutside, IsRetainedState};
+ghost use Rattle.plcx_meaning.specs.Traces.{trace_from};
+ghost use Rattle.plcx_meaning.specs.Run.{Input, Event, Scan, Machine, Side, after, begin_side, AreEvents};
+ghost use Rattle.plcx_meaning.specs.Diagram.{Element, Pou, Project, program_named};
+ghost use Rattle.plcx_meaning.specs.Evaluate.{Diagram, no_wires, elements_do, successor, at_network, jumping, Setting, with_standard, blocks_do, program_does, diagram_machine};
+ghost use Rattle.plcx_meaning.specs.Execute.{Run, Frame, Here, with_truth, value_of, run_statement, run_statements, run_list, blocks_run, program_runs, text_machine};
+ghost use Rattle.plcx_meaning.specs.Execute as text;
+ghost use Rattle.plcx_meaning.specs.Templates.{pou_text, unit_of};
 ghost use Rattle.plcx_meaning.specs.Fits.{ProjectFits};
-ghost use Rattle.plcx_meaning.specs.Templates.{unit_of};
-ghost use Rattle.plcx_meaning.specs.Ready.{IsReady};
-ghost use Rattle.plcx_meaning.specs.Spelled.{IsSpelled};
-ghost use Rattle.plcx_meaning.specs.Same.{Behaves};
-ghost use Rattle.plcx_meaning.specs.Examples.{crossed, backward, crossed_text, undeclared_text, twice_text, unspelled_text, after_scan, with_a};
+ghost use Rattle.plcx_meaning.specs.Same.{Behaves, AgreeThroughout};
+ghost use Rattle.plcx_meaning.specs.Turns.{LeavesAtMost};
+
+/// The text of a project that fits does what the project does: for every program, retained state, list of scans and restarts, and budget.
+/// Both tell the same after each event, which is a step, with the same values on all declared paths; and what either keeps agrees throughout, the memories of each instance and the turns that are left included.
+/// So both have the same trace: what is told and shown after each event, and what is retained at the end.
+pub fn same_behavior()
+    ensures behaves { (project : Project) → ProjectFits project → Behaves project (unit_of project) }
+    ensures agrees { (project : Project) → ProjectFits project → (name : List ℕ) (p : Pou) → program_named name project ≡ Some p → (kept : Path → ℤ) (es : List Event) → AreEvents (diagram_machine project p).layout 0 es → (turns : ℕ) → AgreeThroughout (diagram_machine project p) (text_machine (unit_of project) (pou_text p)) turns es (begin_side (diagram_machine project p) kept) (begin_side (text_machine (unit_of project) (pou_text p)) kept) }
+    ensures traces { (project : Project) → ProjectFits project → (name : List ℕ) (p : Pou) → program_named name project ≡ Some p → (kept : Path → ℤ) → IsRetainedState (diagram_machine project p).layout kept → (es : List Event) → AreEvents (diagram_machine project p).layout 0 es → (turns : ℕ) → trace_from (diagram_machine project p) turns es (begin_side (diagram_machine project p) kept) ≡ trace_from (text_machine (unit_of project) (pou_text p)) turns es (begin_side (text_machine (unit_of project) (pou_text p)) kept) }
+{}
 
 /// A scan of a side that is halted changes nothing.
 pub fn halting()
@@ -19,47 +29,20 @@ pub fn halting()
     ensures text { (m : Machine Run) (turns time : ℕ) (inputs : List Input) (s : Side Run) → s.halted ≡ true → after m turns (Scan time inputs) s ≡ s }
 {}
 
-/// The text of a project that fits does what the project does: for every program, retained state, list of scans and restarts, and budget.
-pub fn same_behavior()
-    ensures ready { (project : Project) → ProjectFits project → IsReady (unit_of project) }
-    ensures spelled { (project : Project) → ProjectFits project → IsSpelled (unit_of project) }
-    ensures behaves { (project : Project) → ProjectFits project → Behaves project (unit_of project) }
-{}
-
-/// A scan of a program of a ready unit has a meaning, whatever its store holds.
-pub fn never_stuck()
-    ensures { (unit : List PouText) → IsReady unit → (name : List ℕ) (p : PouText) → program_named name unit ≡ Some p → (turns time : ℕ) (inputs : List Input) (g : Run) → (text_machine p).scan turns time inputs g ≢ Stuck }
-{}
-
-/// No statement makes more turns, whether the text is ready or not.
+/// Neither side makes more turns, however a piece of a scan comes out.
 pub fn turns_never_grow()
-    ensures statements { (body : List Statement) (p : PouText) (path : Path) (g : Run) (f : Frame) → LeavesAtMost g.left (run_statements body p path g f) }
-    ensures pou { (p : PouText) (path : Path) (g : Run) → LeavesAtMost g.left (run_pou p path g) }
+    ensures diagram { (time : ℕ) (project : Project) (p : Pou) (d : Diagram) → LeavesAtMost (λ e. e.left) d.left (program_does time project p d) }
+    ensures text { (time : ℕ) (unit : List PouText) (p : PouText) (g : Run) → LeavesAtMost (λ h. h.left) g.left (program_runs time unit p g) }
+    ensures statements { (n time : ℕ) (unit : List PouText) (c : Here) (ss : List Statement) (g : Run) (f : Frame) → LeavesAtMost (λ h. h.left) g.left (run_list ss c (text.with_standard time (blocks_run n time unit)) g f) }
 {}
 
-/// Whoever sets or shows leaves of a text meets declared ones alone, and so no variable that the compiler keeps for itself.
+/// A loop is its test, one turn, and the loop again; and so is a body with jumps from a network on. The numbers that bound the recursions of the definitions never show.
+pub fn loops()
+    ensures diagram { (n time : ℕ) (project : Project) (networks : List (List Element)) (c : Setting) → c.called ≡ with_standard time (blocks_do n time project) → (i : ℕ) (d : Diagram) → jumping d.left networks c i d ≡ at_network (slice_get networks i) d (λ network. spend d.left d (λ left. then_do (elements_do network c (record d { left = left }) no_wires) (λ e ws. jumping e.left networks c (successor networks network (i + 1) ws) e))) }
+    ensures text { (n time : ℕ) (unit : List PouText) (c : Here) (e : Expression) (ss : Statements) (g : Run) (f : Frame) → run_statement (While e ss) c (text.with_standard time (blocks_run n time unit)) g f ≡ with_truth (value_of e c g.store f) g (λ b. if b then spend g.left g (λ left. then_do (run_statements ss c (text.with_standard time (blocks_run n time unit)) (record g { left = left }) f) (run_statement (While e ss) c (text.with_standard time (blocks_run n time unit)))) else Ended g f) }
+{}
+
+/// Whoever sets or shows leaves meets declared ones alone, and so no variable that the compiler keeps for itself.
 pub fn outside_leaves()
-    ensures { (p : PouText) → Each IsOutside (layout_of p) }
+    ensures { (c : Scope) → Each IsOutside (layout c) }
 {}
-
-/// The order of the networks decides, and not that of the file; what is not declared, or declared twice, is not ready.
-pub fn examples()
-    ensures fits { ProjectFits (crossed ∷ []) }
-    ensures text { unit_of (crossed ∷ []) ≡ crossed_text ∷ [] }
-    ensures diagram_scan { after_scan (diagram_machine crossed) (with_a (pos 1)) (codes "c" ∷ []) ≡ pos 1 }
-    ensures diagram_rests { after_scan (diagram_machine crossed) (with_a (pos 0)) (codes "c" ∷ []) ≡ pos 0 }
-    ensures text_scan { after_scan (text_machine crossed_text) (with_a (pos 1)) (codes "c" ∷ []) ≡ pos 1 }
-    ensures backward { ProjectFits (backward ∷ []) → ⊥ }
-    ensures undeclared { IsReady (undeclared_text ∷ []) → ⊥ }
-    ensures twice { IsReady (twice_text ∷ []) → ⊥ }
-    ensures unspelled { IsSpelled (unspelled_text ∷ []) → ⊥ }
-{}
-
-/// The temporaries of wires are names.
-pub fn wires_are_names()
-    ensures { (id : ℕ) → id < 2 ^ 64 → IsTrue (is_identifier (wire_name id)) }
-{}
-
-ghost use Rattle.std.specs.Prelude.{◌<◌, ◌^◌, IsTrue};
-ghost use Rattle.plcx_types.specs.Name.{is_identifier};
-ghost use Rattle.plcx_meaning.specs.Templates.{wire_name};

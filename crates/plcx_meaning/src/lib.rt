@@ -1,12 +1,13 @@
 //! What diagrams and texts mean, and the text of a diagram: definitions, and the laws that join them.
-//!
-//! `Diagram` says what a scan of a diagram does, `Text` what a scan of a text does, `Run` what either side
-//! tells over a list of events, `Templates` which text a diagram has, and `Same` when two sides behave alike.
 #![tactic(auto)]
 
+mod examples;
 mod law;
+mod ready;
 
-pub use law::{
-    examples, halting, never_stuck, outside_leaves, same_behavior, turns_never_grow,
-    wires_are_names,
+pub use examples::{
+    examples_of_blocks, examples_of_feedback, examples_of_in_outs, examples_of_loops,
+    examples_of_pins, examples_of_rungs, examples_that_fit,
 };
+pub use law::{halting, loops, outside_leaves, same_behavior, turns_never_grow};
+pub use ready::{never_stuck, readiness_of_texts, texts_are_ready};

@@ -1,0 +1,299 @@
+-- What a text does in a scan. Nothing here knows of diagrams.
+use Rattle.std.specs.Prelude.{ℕ, zero, suc, ℤ, pos, negsuc, Bool, true, false, not, ◌&&◌, List, [], ◌∷◌, Option, Some, None, nat_eq, if◌then◌else◌}
+use Rattle.std.specs.List.{list_any, list_all}
+use Rattle.std.specs.Str.{bytes_eq}
+use Rattle.plcx_types.specs.declared.ty.Ty.{Ty}
+use Rattle.plcx_types.specs.declared.ty.Ty.TheVariants as ty
+use Rattle.plcx_types.specs.Name.{folded}
+use Rattle.plcx_types.specs.TypeName.{same_ty}
+use Rattle.plcx_types.specs.Value.{Value}
+use Rattle.plcx_std.specs.Kind.{kind_named}
+use Rattle.plcx_funcs.specs.declared.func.Func.{Func}
+use Rattle.plcx_funcs.specs.declared.func.Func.TheVariants as func
+use Rattle.plcx_funcs.specs.Names.{function_named}
+use Rattle.plcx_funcs.specs.Applied.{value}
+use Rattle.plcx_meaning.specs.Base.{Path, is_true, put, Faulted, OutOfTurns, Outcome, Ended, Stopped, Stuck, then_do, spend, found, Site, top}
+use Rattle.plcx_meaning.specs.Tree.{Class, Local, Input, Output, InOut, Temp, Operator, Or, Xor, And, Equal, NotEqual, Less, Greater, LessOrEqual, GreaterOrEqual, Plus, Minus, Times, Divide, Mod, Expression, Number, Name, Member, Apply, Not, Binary, Expressions, no_expression, expression, Argument, Statement, Assign, Call, If, While, Case, Statements, no_statement, statement, Arms, no_arm, arm, PouText}
+use Rattle.plcx_meaning.specs.Layout.{Variable, variables_of, variable_named, initial_of, World, Meaning, Elementary, Composed, meaning, parts_of, Scope, layout, begun, restarted}
+use Rattle.plcx_meaning.specs.Standard.{called}
+use Rattle.plcx_meaning.specs.Functions.{Answer, Given, Faulty, Missing, on_value, call_function, call_named}
+use Rattle.plcx_meaning.specs.Diagram.{is_program}
+use Rattle.plcx_meaning.specs.Run.{put_inputs, Machine}
+
+-- what a name means: a temporary, a variable or an in-out of a type, or an instance of the type of a name
+pub data Place : Type 0 where
+  Temporary Kept Bound : Ty → Place
+  Instance : (type : List ℕ) → Place
+  Unknown : Place
+
+abbrev pub elementary : Class → Ty → Place
+elementary Local t = Kept t
+elementary Input t = Kept t
+elementary Output t = Kept t
+elementary InOut t = Bound t
+elementary Temp t = Temporary t
+
+abbrev pub place_by : Meaning → Class → List ℕ → Place
+place_by (Elementary t) class type = elementary class t
+place_by (Composed vs) class type = Instance type
+
+abbrev pub place : World → Option Variable → Place
+place world None = Unknown
+place world (Some v) = place_by (meaning world v.ty) v.class v.ty
+
+-- where a statement stands: what types stand for, the variables of its POU, and its instance
+pub record Here : Type 0 where
+  pub world : World
+  pub variables : List Variable
+  pub site : Site
+
+abbrev pub place_of : Here → List ℕ → Place
+place_of c x = place c.world (variable_named (folded x) c.variables)
+
+-- what a scan changes: the leaves, those of memories among them, and the turns that are left
+pub record Run : Type 0 where
+  pub store : Path → ℤ
+  pub left : ℕ
+
+-- the temporaries of one call, by their names without case
+abbrev pub Frame : Type 0
+Frame = List ℕ → ℤ
+
+-- each temporary begins with its initial value, else with its default
+abbrev pub fresh : List Variable → Frame
+fresh vs key = initial_of (variable_named key vs)
+
+abbrev pub hold : Frame → List ℕ → ℤ → Frame
+hold f x v key = if bytes_eq key (folded x) then v else f key
+
+abbrev pub with_value : {A L : Type 0} → Answer A → Run → (A → Outcome Run L) → Outcome Run L
+with_value (Given x) g go = go x
+with_value (Faulty fault) g go = Stopped (Faulted fault) g
+with_value Missing g go = Stuck
+
+-- a condition is a truth value, else there is no step
+abbrev pub with_truth : {L : Type 0} → Answer Value → Run → (Bool → Outcome Run L) → Outcome Run L
+with_truth a g go = with_value a g (λ v. if same_ty v.ty ty.Bool then go (is_true v.n) else Stuck)
+
+-- the leaf that a name stands for, where it stands for one
+abbrev pub leaf_at : Place → List ℕ → Site → Path
+leaf_at (Kept t) x site = folded x ∷ site.path
+leaf_at (Bound t) x site = site.bound (folded x)
+leaf_at (Temporary t) x site = []
+leaf_at (Instance type) x site = []
+leaf_at Unknown x site = []
+
+abbrev pub read : Place → List ℕ → Site → (Path → ℤ) → Frame → Answer Value
+read (Kept t) x site s f = Given (value t (s (folded x ∷ site.path)))
+read (Bound t) x site s f = Given (value t (s (site.bound (folded x))))
+read (Temporary t) x site s f = Given (value t (f (folded x)))
+read (Instance type) x site s f = Missing
+read Unknown x site s f = Missing
+
+-- the variables of the instance of a name
+abbrev pub parts_named : Here → List ℕ → List Variable
+parts_named c i = parts_of c.world (variable_named (folded i) c.variables)
+
+abbrev pub read_member : Meaning → Class → Path → (Path → ℤ) → Answer Value
+read_member (Elementary t) Output p s = Given (value t (s p))
+read_member (Elementary t) _ p s = Missing
+read_member (Composed vs) class p s = Missing
+
+-- an output of an instance, where it is one, at the path
+abbrev pub read_output : World → Option Variable → Path → (Path → ℤ) → Answer Value
+read_output world None p s = Missing
+read_output world (Some v) p s = read_member (meaning world v.ty) v.class p s
+
+abbrev pub function_of : Operator → Func
+function_of Or = func.Or
+function_of Xor = func.Xor
+function_of And = func.And
+function_of Equal = func.Eq
+function_of NotEqual = func.Ne
+function_of Less = func.Lt
+function_of Greater = func.Gt
+function_of LessOrEqual = func.Le
+function_of GreaterOrEqual = func.Ge
+function_of Plus = func.Add
+function_of Minus = func.Sub
+function_of Times = func.Mul
+function_of Divide = func.Div
+function_of Mod = func.Mod
+
+-- all operands are evaluated, from the left
+abbrev mutual
+  pub value_of : Expression → Here → (Path → ℤ) → Frame → Answer Value
+  value_of (Number v) c s f = Given v
+  value_of (Name x) c s f = read (place_of c x) x c.site s f
+  value_of (Member i x) c s f = read_output c.world (variable_named (folded x) (parts_named c i)) (folded x ∷ folded i ∷ c.site.path) s
+  value_of (Apply x es) c s f = on_value (values_of es c s f) (call_named (function_named x))
+  value_of (Not e) c s f = on_value (value_of e c s f) (λ v. call_function func.Not (v ∷ []))
+  value_of (Binary op a b) c s f = on_value (value_of a c s f) (λ v. on_value (value_of b c s f) (λ w. call_function (function_of op) (v ∷ w ∷ [])))
+
+  pub values_of : Expressions → Here → (Path → ℤ) → Frame → Answer (List Value)
+  values_of no_expression c s f = Given []
+  values_of (expression e es) c s f = on_value (value_of e c s f) (λ v. on_value (values_of es c s f) (λ vs. Given (v ∷ vs)))
+
+-- a value goes to a place of its type
+abbrev pub assign : Place → List ℕ → Site → Value → Run → Frame → Outcome Run Frame
+assign (Kept t) x site v g f = if same_ty v.ty t then Ended (record g { store = put g.store (folded x ∷ site.path) v.n }) f else Stuck
+assign (Bound t) x site v g f = if same_ty v.ty t then Ended (record g { store = put g.store (site.bound (folded x)) v.n }) f else Stuck
+assign (Temporary t) x site v g f = if same_ty v.ty t then Ended g (hold f x v.n) else Stuck
+assign (Instance type) x site v g f = Stuck
+assign Unknown x site v g f = Stuck
+
+-- what a formal name of a call is: an input or an in-out of a type
+pub data Formal : Type 0 where
+  Takes Binds : Ty → Formal
+  NoFormal : Formal
+
+abbrev pub formal_by : Meaning → Class → Formal
+formal_by (Elementary t) Input = Takes t
+formal_by (Elementary t) InOut = Binds t
+formal_by (Elementary t) _ = NoFormal
+formal_by (Composed vs) class = NoFormal
+
+abbrev pub formal : World → Option Variable → Formal
+formal world None = NoFormal
+formal world (Some v) = formal_by (meaning world v.ty) v.class
+
+abbrev pub formal_named : Here → List ℕ → List ℕ → Formal
+formal_named c i x = formal c.world (variable_named (folded x) (parts_named c i))
+
+abbrev pub has_leaf : Place → Ty → Bool
+has_leaf (Kept u) t = same_ty u t
+has_leaf (Bound u) t = same_ty u t
+has_leaf (Temporary u) t = false
+has_leaf (Instance type) t = false
+has_leaf Unknown t = false
+
+abbrev pub place_in : Here → Expression → Place
+place_in c (Name x) = place_of c x
+place_in c _ = Unknown
+
+-- An input gets the value of its argument, and an in-out is bound to a variable of its type. All values are taken in the state before the call.
+abbrev pub store_argument : Formal → Argument → Here → Path → Run → Frame → Run → (Run → Outcome Run Frame) → Outcome Run Frame
+store_argument (Takes t) a c p old f g go = with_value (value_of a.value c old.store f) old (λ v. if same_ty v.ty t then go (record g { store = put g.store p v.n }) else Stuck)
+store_argument (Binds t) a c p old f g go = if has_leaf (place_in c a.value) t then go g else Stuck
+store_argument NoFormal a c p old f g go = Stuck
+
+abbrev pub store_arguments : List Argument → Here → List ℕ → Run → Frame → Run → (Run → Outcome Run Frame) → Outcome Run Frame
+store_arguments [] c i old f g go = go g
+store_arguments (a ∷ rest) c i old f g go =
+    store_argument (formal_named c i a.formal) a c (folded a.formal ∷ folded i ∷ c.site.path) old f g (λ h. store_arguments rest c i old f h go)
+
+abbrev pub leaf_of : Here → Expression → Path
+leaf_of c (Name x) = leaf_at (place_of c x) x c.site
+leaf_of c _ = []
+
+abbrev pub binds : Formal → Bool
+binds (Takes t) = false
+binds (Binds t) = true
+binds NoFormal = false
+
+-- the in-outs of the instance that is called stand for the leaves that their arguments name
+abbrev pub bind : List Argument → Here → List ℕ → List ℕ → Path
+bind [] c i key = []
+bind (a ∷ rest) c i key = if binds (formal_named c i a.formal) && bytes_eq (folded a.formal) key then leaf_of c a.value else bind rest c i key
+
+-- a call has an argument for each in-out
+abbrev pub is_bound : List Argument → Variable → Bool
+is_bound args v = elim v.class [ InOut ↦ list_any (λ (a : Argument). bytes_eq (folded a.formal) (folded v.name)) args | _ ↦ true ]
+
+abbrev pub all_bound : List Argument → List Variable → Bool
+all_bound args vs = list_all (is_bound args) vs
+
+abbrev pub type_of_instance : Place → Option (List ℕ)
+type_of_instance (Instance type) = Some type
+type_of_instance (Kept t) = None
+type_of_instance (Bound t) = None
+type_of_instance (Temporary t) = None
+type_of_instance Unknown = None
+
+-- how a block is run: the one of a type's name, as the instance at a site
+abbrev pub Invoked : Type 0
+Invoked = List ℕ → Site → Run → Outcome Run (Unit {0})
+
+-- a call stores its inputs, binds its in-outs and runs the block; the temporaries of the caller stay
+abbrev pub invoke : List ℕ → List Argument → Here → Invoked → Run → Frame → Outcome Run Frame
+invoke i args c call g f =
+    found (type_of_instance (place_of c i)) (λ type.
+    if all_bound args (parts_named c i)
+    then store_arguments args c i g f g (λ h. then_do (call type (record { path = folded i ∷ c.site.path; bound = bind args c i }) h) (λ k u. Ended k f))
+    else Stuck)
+
+-- A loop: each turn costs one of the budget. The first number only bounds the recursion; it is the number of turns that are left.
+abbrev pub turns : ℕ → (Run → Frame → Answer Value) → (Run → Frame → Outcome Run Frame) → Run → Frame → Outcome Run Frame
+turns zero test body g f = with_truth (test g f) g (λ b. if b then Stopped OutOfTurns g else Ended g f)
+turns (suc n) test body g f =
+    with_truth (test g f) g (λ b.
+    if b then spend g.left g (λ left. then_do (body (record g { left = left }) f) (turns n test body)) else Ended g f)
+
+abbrev pub is_label : ℤ → ℕ → Bool
+is_label (pos m) n = nat_eq m n
+is_label (negsuc m) n = false
+
+abbrev mutual
+  pub run_statement : Statement → Here → Invoked → Run → Frame → Outcome Run Frame
+  run_statement (Assign x e) c call g f = with_value (value_of e c g.store f) g (λ v. assign (place_of c x) x c.site v g f)
+  run_statement (Call i args) c call g f = invoke i args c call g f
+  run_statement (If e ss) c call g f = with_truth (value_of e c g.store f) g (λ b. if b then run_statements ss c call g f else Ended g f)
+  run_statement (While e ss) c call g f = turns g.left (λ h l. value_of e c h.store l) (run_statements ss c call) g f
+  run_statement (Case e arms) c call g f = with_value (value_of e c g.store f) g (λ v. if same_ty v.ty ty.Dint then run_arms arms c call v.n g f else Stuck)
+
+  pub run_statements : Statements → Here → Invoked → Run → Frame → Outcome Run Frame
+  run_statements no_statement c call g f = Ended g f
+  run_statements (statement s ss) c call g f = then_do (run_statement s c call g f) (run_statements ss c call)
+
+  -- a CASE without the label does nothing
+  pub run_arms : Arms → Here → Invoked → ℤ → Run → Frame → Outcome Run Frame
+  run_arms no_arm c call n g f = Ended g f
+  run_arms (arm label ss rest) c call n g f = if is_label n label then run_statements ss c call g f else run_arms rest c call n g f
+
+abbrev pub run_list : List Statement → Here → Invoked → Run → Frame → Outcome Run Frame
+run_list [] c call g f = Ended g f
+run_list (s ∷ ss) c call g f = then_do (run_statement s c call g f) (run_list ss c call)
+
+-- a POU as an instance; its temporaries begin anew and are gone afterwards
+abbrev pub run_pou : PouText → World → Invoked → Site → Run → Outcome Run (Unit {0})
+run_pou p world call site g =
+    then_do (run_list p.body (record { world = world; variables = variables_of p.blocks; site = site }) call g (fresh (variables_of p.blocks))) (λ h f. Ended h tt)
+
+-- the program of a name
+abbrev pub program_named : List ℕ → List PouText → Option PouText
+program_named name [] = None
+program_named name (p ∷ ps) = if is_program p.kind && bytes_eq (folded p.name) (folded name) then Some p else program_named name ps
+
+-- the function block of a name
+abbrev pub block_named : List ℕ → List PouText → Option PouText
+block_named name [] = None
+block_named name (p ∷ ps) = if not (is_program p.kind) && bytes_eq (folded p.name) (folded name) then Some p else block_named name ps
+
+abbrev pub world_of : List PouText → World
+world_of unit key = elim (block_named key unit) [ Some p ↦ p.blocks | None ↦ [] ]
+
+-- a standard block takes one step at the time of the scan, and others are run as users say
+abbrev pub with_standard : ℕ → Invoked → Invoked
+with_standard time users type site g = elim (kind_named type) [ Some k ↦ Ended (record g { store = called k time site.path g.store }) tt | None ↦ users type site g ]
+
+-- the function blocks of a unit, with so many levels of them below
+abbrev pub blocks_run : ℕ → (time : ℕ) → List PouText → Invoked
+blocks_run zero time unit type site g = Stuck
+blocks_run (suc n) time unit type site g =
+    found (block_named type unit) (λ p. run_pou p (world_of unit) (with_standard time (blocks_run n time unit)) site g)
+
+abbrev pub program_runs : (time : ℕ) → List PouText → PouText → Run → Outcome Run (Unit {0})
+program_runs time unit p g = run_pou p (world_of unit) (with_standard time (blocks_run 16 time unit)) top g
+
+abbrev pub scope_of : List PouText → PouText → Scope
+scope_of unit p = record { world = world_of unit; own = variables_of p.blocks }
+
+-- a program of a text as a side
+abbrev pub text_machine : List PouText → PouText → Machine Run
+text_machine unit p = record {
+  layout = layout (scope_of unit p);
+  begin = λ kept. record { store = begun (scope_of unit p) kept; left = 0 };
+  scan = λ turns time inputs g. program_runs time unit p (record { store = put_inputs inputs g.store; left = turns });
+  restart = λ r g. record { store = restarted (scope_of unit p) r g.store; left = 0 };
+  value = λ g q. g.store q;
+}
