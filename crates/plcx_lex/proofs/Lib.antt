@@ -1,0 +1,16 @@
+pub mod Folds
+pub mod Numbers
+pub mod Finding
+pub mod NumeralScan
+pub mod WholeForms
+pub mod TimeForm
+pub mod TimeScan
+pub mod TypedScan
+pub mod PlaceScan
+pub mod AddressScan
+pub mod SignScan
+pub mod TokenForms
+pub mod TokenScan
+pub mod OneKind
+pub mod PieceLaws
+pub mod MadeLaws

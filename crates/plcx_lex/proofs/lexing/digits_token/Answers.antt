@@ -1,0 +1,5 @@
+use Rattle.plcx_lex.proofs.TokenScan.{digits_found}
+use Rattle.plcx_lex.proofs.lexing.digits_token.Goals as goal
+
+pub returns : goal.returns
+returns c = digits_found c.args.text.now c.run_len.result c.requires.some c.requires.first c.run_len.ensures

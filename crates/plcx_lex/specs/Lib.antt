@@ -1,0 +1,6 @@
+pub mod Token
+pub mod Number
+pub mod ReadNumber
+pub mod Lexis
+pub mod Scan
+pub mod Fails

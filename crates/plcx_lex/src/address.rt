@@ -1,0 +1,59 @@
+//! How long the address at the front of a text is.
+ghost use Rattle.std.specs.Prelude.{◌≡◌, codes};
+ghost use Rattle.std.specs.Char.{to_ascii_lowercase};
+ghost use Rattle.plcx_types.specs.Name.{folded};
+ghost use Rattle.plcx_lex.specs.Lexis.{is_one_of, ArePlaces, IsAddress};
+ghost use Rattle.plcx_lex.specs.Scan.{Finds};
+
+use crate::runs::{Class, front, run_len};
+
+fn is_area(byte: u8) -> bool
+    ensures { result ≡ is_one_of (codes "iqm") (to_ascii_lowercase byte) }
+{
+    let letter = byte.to_ascii_lowercase();
+    letter == b'i' || letter == b'q' || letter == b'm'
+}
+
+fn is_size(byte: u8) -> bool
+    ensures { result ≡ is_one_of (codes "xbwdl") (to_ascii_lowercase byte) }
+{
+    let letter = byte.to_ascii_lowercase();
+    letter == b'x' || letter == b'b' || letter == b'w' || letter == b'd' || letter == b'l'
+}
+
+/// How long the longest list of places is.
+fn places_len(most: usize, text: &[u8]) -> Option<usize>
+    ensures { Finds (ArePlaces most) (folded text.now) result }
+{
+    let n = run_len(Class::Decimal, front(9, text));
+    if most == 0 || n == 0 {
+        return None;
+    }
+    if n == text.len() || text[n] != b'.' {
+        return Some(n);
+    }
+    match places_len(most - 1, &text[n + 1..]) {
+        None => Some(n),
+        Some(more) => Some(n + 1 + more),
+    }
+}
+
+/// How long the longest address is.
+pub(crate) fn address_len(text: &[u8]) -> Option<usize>
+    ensures { Finds IsAddress (folded text.now) result }
+{
+    if text.len() < 3 || text[0] != b'%' || !is_area(text[1]) {
+        return None;
+    }
+    if is_size(text[2]) {
+        match places_len(8, &text[3..]) {
+            None => None,
+            Some(n) => Some(3 + n),
+        }
+    } else {
+        match places_len(8, &text[2..]) {
+            None => None,
+            Some(n) => Some(2 + n),
+        }
+    }
+}

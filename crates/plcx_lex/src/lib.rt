@@ -1,0 +1,23 @@
+//! The tokens of a text.
+#![tactic(auto)]
+
+mod address;
+mod cutting;
+mod error;
+mod law;
+mod lexing;
+mod number;
+mod pieces;
+mod runs;
+mod sign;
+mod token;
+mod whole;
+
+pub use cutting::tokens;
+pub use error::TextError;
+pub use law::one_list;
+pub use number::number_of;
+pub use token::{TextToken, TokenKind};
+
+#[cfg(test)]
+mod tests;
