@@ -1,5 +1,10 @@
-pub mod Meant
-pub mod Lexis
+pub mod Terminal
 pub mod Grammar
+pub mod Place
+pub mod Meant
 pub mod Print
-pub mod Example
+pub mod Depth
+pub mod Fitting
+pub mod InRange
+pub mod Printer
+pub mod Stands

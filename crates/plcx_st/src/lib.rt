@@ -1,15 +1,20 @@
-//! The tree of a structured text, and its printed form.
-//!
-//! `StandsForUnit` says which unit bytes stand for, `meant` what a unit means without the places of its words,
-//! and `printed` the bytes of a unit.
+//! The tree of a structured text, and its grammar.
 #![tactic(auto)]
 
 mod law;
 mod printing;
-#[cfg(test)]
-mod tests;
+mod range;
+mod terminal;
 mod tree;
 
-pub use law::{one_unit, printed_example, read_again};
+pub use law::read_again;
 pub use printing::print;
-pub use tree::{Decl, Expr, PouText, Stmt, TextBlock, TextClass, TextKind, Unit, Word};
+pub use range::texts_are_in_range;
+pub use terminal::{SIGNS, Terminal, WORDS};
+pub use tree::{
+    Arg, Arm, Decl, Expr, Mark, Number, Op, PouText, Stmt, TextBlock, TextClass, TextKind, Unit,
+    Word,
+};
+
+#[cfg(test)]
+mod tests;

@@ -1,0 +1,57 @@
+-- Literals that lie in their types, and labels of a CASE that are kept as they are written.
+use Rattle.std.specs.Prelude.{◌≤◌, List, Option, Some, None}
+use Rattle.plcx_types.specs.Range.{InRange}
+use Rattle.plcx_types.specs.Value.{Value}
+use Rattle.plcx_meaning.specs.Base.{Each}
+use Rattle.plcx_meaning.specs.Tree.{Declaration, Block, Expression, Number, Name, Member, Apply, Not, Binary, Expressions, no_expression, expression, Argument, Statement, Assign, Call, If, While, Case, Statements, no_statement, statement, Arms, no_arm, arm, PouText, statements}
+
+abbrev pub NumberFits : Value → Type 0
+NumberFits v = InRange v.ty v.n
+
+abbrev mutual
+  pub ExpressionFits : Expression → Type 0
+  ExpressionFits (Number v) = NumberFits v
+  ExpressionFits (Name x) = Unit {0}
+  ExpressionFits (Member instance output) = Unit {0}
+  ExpressionFits (Apply function arguments) = ExpressionsFit arguments
+  ExpressionFits (Not operand) = ExpressionFits operand
+  ExpressionFits (Binary o left right) = ExpressionFits left × ExpressionFits right
+
+  pub ExpressionsFit : Expressions → Type 0
+  ExpressionsFit no_expression = Unit {0}
+  ExpressionsFit (expression e es) = ExpressionFits e × ExpressionsFit es
+
+abbrev pub ArgumentFits : Argument → Type 0
+ArgumentFits a = ExpressionFits a.value
+
+abbrev mutual
+  pub StatementFits : Statement → Type 0
+  StatementFits (Assign x e) = ExpressionFits e
+  StatementFits (Call instance arguments) = Each ArgumentFits arguments
+  StatementFits (If e body) = ExpressionFits e × StatementsFit body
+  StatementFits (While e body) = ExpressionFits e × StatementsFit body
+  StatementFits (Case e arms) = ExpressionFits e × ArmsFit arms
+
+  pub StatementsFit : Statements → Type 0
+  StatementsFit no_statement = Unit {0}
+  StatementsFit (statement s ss) = StatementFits s × StatementsFit ss
+
+  pub ArmsFit : Arms → Type 0
+  ArmsFit no_arm = Unit {0}
+  ArmsFit (arm label body arms) = (label ≤ 2147483647) × StatementsFit body × ArmsFit arms
+
+abbrev pub InitialFits : Option Value → Type 0
+InitialFits None = Unit {0}
+InitialFits (Some v) = NumberFits v
+
+abbrev pub DeclarationFits : Declaration → Type 0
+DeclarationFits d = InitialFits d.initial
+
+abbrev pub BlockFits : Block → Type 0
+BlockFits b = Each DeclarationFits b.declarations
+
+abbrev pub PouFits : PouText → Type 0
+PouFits p = Each BlockFits p.blocks × StatementsFit (statements p.body)
+
+abbrev pub UnitFits : List PouText → Type 0
+UnitFits unit = Each PouFits unit
