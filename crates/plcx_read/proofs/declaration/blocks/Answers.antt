@@ -1,0 +1,9 @@
+use Rattle.std.proofs.Common.{◌+◌, length, arith, sym, ◌∙◌}
+use Rattle.plcx_read.specs.Reading as spec
+use Rattle.plcx_read.proofs.Turns.{several_turn}
+use Rattle.plcx_read.proofs.declaration.blocks.Goals as goal
+
+pub loop-turn-preserved : goal.loop-turn-preserved
+loop-turn-preserved c =
+    let turn = several_turn spec.block spec.begins_block (length c.args.tokens.now + 1) c.loop-turn._turn c.loop-turn.found 0 c.loop-turn.rest.now c.in_ok-x.x 0 c.in_ok-x.after.now (omega arith) (rw (← c.next.ensures) (sym c.begins_block.ensures ∙ c.if-not-begins_block.false)) c.in_ok-x.ensures in
+    rw (c.in_ok-push.ensures.ok, c.onward-rest.ensures) (sym turn ∙ c.loop-turn.invariant)

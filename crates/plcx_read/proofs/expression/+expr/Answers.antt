@@ -1,0 +1,20 @@
+use Rattle.std.proofs.Common.{rules, ◌+◌, length, arith, sym, ◌∙◌}
+use Rattle.std.proofs.lemmas.Result.{err_from_is_err_and}
+use Rattle.plcx_read.specs.Reading as spec
+use Rattle.plcx_read.proofs.Turns.{parted_turn, climb_turn, climb_fails}
+use Rattle.plcx_read.proofs.expression.+expr.Goals as goal
+
+pub arguments-loop-turn-preserved : goal.arguments-loop-turn-preserved
+arguments-loop-turn-preserved t c =
+    let turn = parted_turn (spec.expr c.args.allowance 0) (length c.args.tokens.now + 1) c.loop-turn._turn c.loop-turn.found c.loop-turn.depth c.loop-turn.rest.now c.in_ok-x.x c.in_ok-x.at c.in_ok-x.after.now (omega arith) c.in_ok-x.ensures.gives (sym c.sees.ensures ∙ c.if-sees.true) in
+    (rw (c.in_ok-push.ensures.ok, c.max-depth.ensures, c.behind-rest.ensures) (sym turn ∙ c.loop-turn.invariant.0), omega (arith, c.in_ok-x.ensures.within))
+
+pub climb-returns-in_err-right-clause-gives : goal.climb-returns-in_err-right-clause-gives
+climb-returns-in_err-right-clause-gives t c =
+    let p = err_from_is_err_and c.from_residual.result c.from_residual.ensures.1 in
+    rw (p.1, p.2, ← c.loop-turn.invariant.0) (climb_fails c.args.allowance (spec.expr c.args.allowance) (c.args.allowance + 1) c.loop-turn._turn c.args.least c.loop-turn.left c.loop-turn.depth c.loop-turn.rest.now c.in-Some.op c.in_err-right.field-0.0 (omega arith) (search rules) (omega arith) (rw (← c.level.ensures.value, ← c.behind.ensures) c.in_err-right.ensures.gives))
+
+pub climb-loop-turn-preserved : goal.climb-loop-turn-preserved
+climb-loop-turn-preserved t c =
+    let turn = climb_turn c.args.allowance (spec.expr c.args.allowance) (c.args.allowance + 1) c.loop-turn._turn c.args.least c.loop-turn.left c.loop-turn.depth c.loop-turn.rest.now c.in-Some.op c.in_ok-right.right c.in_ok-right.at c.in_ok-right.after.now (omega arith) (search rules) (omega arith) (rw (← c.level.ensures.value, ← c.behind.ensures) c.in_ok-right.ensures.gives) in
+    (rw (c.in_ok-left.ensures, c.max-depth.ensures, c.onward-rest.ensures) (sym turn ∙ c.loop-turn.invariant.0), omega (arith, c.in_ok-right.ensures.within))

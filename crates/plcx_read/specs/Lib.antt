@@ -1,0 +1,4 @@
+pub mod Reading
+pub mod Gives
+pub mod Fails
+pub mod Located

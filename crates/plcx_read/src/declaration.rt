@@ -1,0 +1,220 @@
+ghost use Rattle.std.specs.Prelude.{◌≡◌};
+ghost use Rattle.plcx_read.specs.Reading as spec;
+ghost use Rattle.plcx_read.specs.Gives.{Gives};
+
+use crate::fault::ReadError;
+use crate::lexeme::Lexeme;
+use crate::token::{Part, behind, expect, literal_at, name_at, next, onward, same, sees};
+use plcx_st::{Decl, Mark, Number, Terminal, TextBlock, TextClass};
+use sqlite_items::Items;
+use std::alloc::Global;
+
+#[tactic(auto, unfolding(crate::specs::Reading::address_token))]
+fn address_token<'t>(alloc: Global, tokens: &'t [Lexeme<'t>]) -> Part<'t, Option<Items<u8>>>
+    ensures { Gives (λ x. (x.0, 0, x.1.now)) result (spec.address_token tokens.now) }
+{
+    match tokens {
+        [] => Err(ReadError::Syntax(0)),
+        [x, rest @ ..] => {
+            if !same(x.terminal(), Terminal::Address) {
+                return Err(ReadError::Syntax(tokens.len()));
+            }
+            Ok((Some(x.address(alloc)?), rest))
+        }
+    }
+}
+
+#[tactic(auto, unfolding(crate::specs::Reading::address_at))]
+fn address_at<'t>(alloc: Global, tokens: &'t [Lexeme<'t>]) -> Part<'t, Option<Items<u8>>>
+    ensures { Gives (λ x. (x.0, 0, x.1.now)) result (spec.address_at tokens.now) }
+{
+    if !sees(Terminal::At, tokens) {
+        return Ok((None, tokens));
+    }
+    address_token(alloc, behind(tokens))
+}
+
+#[tactic(auto, unfolding(crate::specs::Reading::initial_at))]
+fn initial_at<'t>(tokens: &'t [Lexeme<'t>]) -> Part<'t, Option<Number>>
+    ensures { Gives (λ x. (x.0, 0, x.1.now)) result (spec.initial_at tokens.now) }
+{
+    if !sees(Terminal::Assign, tokens) {
+        return Ok((None, tokens));
+    }
+    let (number, rest) = literal_at(behind(tokens))?;
+    Ok((Some(number), rest))
+}
+
+#[tactic(auto, unfolding(crate::specs::Reading::decl))]
+fn decl<'t>(alloc: Global, tokens: &'t [Lexeme<'t>]) -> Part<'t, Decl>
+    ensures { Gives (λ x. (x.0, 0, x.1.now)) result (spec.decl tokens.now) }
+{
+    let (name, rest) = name_at(alloc, tokens)?;
+    let (address, rest) = address_at(alloc, rest)?;
+    let rest = expect(Terminal::Colon, rest)?;
+    let (ty, rest) = name_at(alloc, rest)?;
+    let (initial, rest) = initial_at(rest)?;
+    let rest = expect(Terminal::Semicolon, rest)?;
+    let decl = Decl {
+        name,
+        address,
+        ty,
+        initial,
+    };
+    Ok((decl, rest))
+}
+
+#[tactic(auto, unfolding(crate::specs::Reading::bare_decl))]
+fn bare_decl<'t>(alloc: Global, tokens: &'t [Lexeme<'t>]) -> Part<'t, Decl>
+    ensures { Gives (λ x. (x.0, 0, x.1.now)) result (spec.bare_decl tokens.now) }
+{
+    let (name, rest) = name_at(alloc, tokens)?;
+    let rest = expect(Terminal::Colon, rest)?;
+    let (ty, rest) = name_at(alloc, rest)?;
+    let rest = expect(Terminal::Semicolon, rest)?;
+    let decl = Decl {
+        name,
+        address: None,
+        ty,
+        initial: None,
+    };
+    Ok((decl, rest))
+}
+
+fn begins_decl(terminal: Terminal) -> bool
+    ensures { result ≡ spec.begins_decl terminal }
+{
+    matches!(terminal, Terminal::Name)
+}
+
+#[tactic(auto, unfolding(crate::specs::Reading::several))]
+fn decls<'t>(alloc: Global, tokens: &'t [Lexeme<'t>]) -> Part<'t, Items<Decl>>
+    ensures { Gives (λ x. (x.0, 0, x.1.now)) result (spec.all_of spec.begins_decl spec.decl tokens.now) }
+{
+    let mut found = Items::new(alloc);
+    let mut rest = tokens;
+    for _turn in 0..tokens.len() + 1 {
+        if !begins_decl(next(rest)) {
+            return Ok((found, rest));
+        }
+        let (x, after) = decl(alloc, rest)?;
+        found.push(x)?;
+        rest = onward(after);
+    }
+    Err(ReadError::Syntax(rest.len()))
+}
+
+#[tactic(auto, unfolding(crate::specs::Reading::several))]
+fn bare_decls<'t>(alloc: Global, tokens: &'t [Lexeme<'t>]) -> Part<'t, Items<Decl>>
+    ensures { Gives (λ x. (x.0, 0, x.1.now)) result (spec.all_of spec.begins_decl spec.bare_decl tokens.now) }
+{
+    let mut found = Items::new(alloc);
+    let mut rest = tokens;
+    for _turn in 0..tokens.len() + 1 {
+        if !begins_decl(next(rest)) {
+            return Ok((found, rest));
+        }
+        let (x, after) = bare_decl(alloc, rest)?;
+        found.push(x)?;
+        rest = onward(after);
+    }
+    Err(ReadError::Syntax(rest.len()))
+}
+
+fn mark_at<'t>(tokens: &'t [Lexeme<'t>]) -> (Mark, &'t [Lexeme<'t>])
+    ensures mark { result.0 ≡ (spec.mark_at tokens.now).0 }
+    ensures rest { result.1.now ≡ (spec.mark_at tokens.now).2 }
+{
+    match next(tokens) {
+        Terminal::Constant => (Mark::Constant, behind(tokens)),
+        Terminal::Retain => (Mark::Retain, behind(tokens)),
+        _ => (Mark::Plain, tokens),
+    }
+}
+
+#[tactic(auto, unfolding(crate::specs::Reading::block_of))]
+fn block_of<'t>(
+    alloc: Global,
+    class: TextClass,
+    mark: Mark,
+    tokens: &'t [Lexeme<'t>],
+) -> Part<'t, TextBlock>
+    ensures { Gives (λ x. (x.0, 0, x.1.now)) result (spec.block_of spec.decl class mark tokens.now) }
+{
+    let (decls, rest) = decls(alloc, tokens)?;
+    let rest = expect(Terminal::EndVar, rest)?;
+    Ok((TextBlock { class, mark, decls }, rest))
+}
+
+#[tactic(auto, unfolding(crate::specs::Reading::block_of))]
+fn bare_block<'t>(alloc: Global, tokens: &'t [Lexeme<'t>]) -> Part<'t, TextBlock>
+    ensures { Gives (λ x. (x.0, 0, x.1.now)) result (spec.block_of spec.bare_decl TextClass.InOut Mark.Plain tokens.now) }
+{
+    let (decls, rest) = bare_decls(alloc, tokens)?;
+    let rest = expect(Terminal::EndVar, rest)?;
+    let block = TextBlock {
+        class: TextClass::InOut,
+        mark: Mark::Plain,
+        decls,
+    };
+    Ok((block, rest))
+}
+
+fn marked_block<'t>(
+    alloc: Global,
+    class: TextClass,
+    tokens: &'t [Lexeme<'t>],
+) -> Part<'t, TextBlock>
+    ensures { Gives (λ x. (x.0, 0, x.1.now)) result (spec.marked_block class tokens.now) }
+{
+    let (mark, rest) = mark_at(tokens);
+    block_of(alloc, class, mark, rest)
+}
+
+#[tactic(auto, unfolding(crate::specs::Reading::block))]
+fn block<'t>(alloc: Global, tokens: &'t [Lexeme<'t>]) -> Part<'t, TextBlock>
+    ensures { Gives (λ x. (x.0, 0, x.1.now)) result (spec.block tokens.now) }
+{
+    match tokens {
+        [] => Err(ReadError::Syntax(0)),
+        [x, rest @ ..] => match x.terminal() {
+            Terminal::Var => marked_block(alloc, TextClass::Var, rest),
+            Terminal::VarInput => marked_block(alloc, TextClass::Input, rest),
+            Terminal::VarOutput => marked_block(alloc, TextClass::Output, rest),
+            Terminal::VarTemp => block_of(alloc, TextClass::Temp, Mark::Plain, rest),
+            Terminal::VarInOut => bare_block(alloc, rest),
+            _ => Err(ReadError::Syntax(tokens.len())),
+        },
+    }
+}
+
+fn begins_block(terminal: Terminal) -> bool
+    ensures { result ≡ spec.begins_block terminal }
+{
+    matches!(
+        terminal,
+        Terminal::Var
+            | Terminal::VarInput
+            | Terminal::VarOutput
+            | Terminal::VarTemp
+            | Terminal::VarInOut
+    )
+}
+
+/// Blocks of declarations.
+#[tactic(auto, unfolding(crate::specs::Reading::several))]
+pub fn blocks<'t>(alloc: Global, tokens: &'t [Lexeme<'t>]) -> Part<'t, Items<TextBlock>>
+    ensures { Gives (λ x. (x.0, 0, x.1.now)) result (spec.all_of spec.begins_block spec.block tokens.now) }
+{
+    let mut found = Items::new(alloc);
+    let mut rest = tokens;
+    for _turn in 0..tokens.len() + 1 {
+        if !begins_block(next(rest)) {
+            return Ok((found, rest));
+        }
+        let (x, after) = block(alloc, rest)?;
+        found.push(x)?;
+        rest = onward(after);
+    }
+    Err(ReadError::Syntax(rest.len()))
+}

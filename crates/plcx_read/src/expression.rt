@@ -1,0 +1,257 @@
+ghost use Rattle.std.specs.Prelude.{◌≡◌, ◌≤◌, ◌<◌, [], ◌+◌, length, ℕ, IfOk};
+ghost use Rattle.plcx_st.specs.Grammar.{operator, level};
+ghost use Rattle.plcx_read.specs.Reading as spec;
+ghost use Rattle.plcx_read.specs.Gives.{Gives};
+
+use crate::fault::ReadError;
+use crate::lexeme::Lexeme;
+use crate::token::{
+    Read, behind, expect, literal_at, name_at, next, onward, room, room_told, sees,
+};
+use plcx_st::{Expr, Op, Terminal};
+use sqlite_items::{Boxed, Items};
+use std::alloc::{AllocError, Global};
+
+fn operator(terminal: Terminal) -> Option<Op>
+    ensures { result ≡ operator terminal }
+{
+    match terminal {
+        Terminal::Or => Some(Op::Or),
+        Terminal::Xor => Some(Op::Xor),
+        Terminal::And => Some(Op::And),
+        Terminal::Equal => Some(Op::Equal),
+        Terminal::NotEqual => Some(Op::NotEqual),
+        Terminal::Less => Some(Op::Less),
+        Terminal::Greater => Some(Op::Greater),
+        Terminal::LessOrEqual => Some(Op::LessOrEqual),
+        Terminal::GreaterOrEqual => Some(Op::GreaterOrEqual),
+        Terminal::Plus => Some(Op::Plus),
+        Terminal::Minus => Some(Op::Minus),
+        Terminal::Times => Some(Op::Times),
+        Terminal::Divide => Some(Op::Divide),
+        Terminal::Mod => Some(Op::Mod),
+        _ => None,
+    }
+}
+
+fn level(op: Op) -> u8
+    ensures value { result ≡ level op }
+    ensures small { result < 7 }
+{
+    match op {
+        Op::Or => 0,
+        Op::Xor => 1,
+        Op::And => 2,
+        Op::Equal | Op::NotEqual => 3,
+        Op::Less | Op::Greater | Op::LessOrEqual | Op::GreaterOrEqual => 4,
+        Op::Plus | Op::Minus => 5,
+        Op::Times | Op::Divide | Op::Mod => 6,
+    }
+}
+
+fn next_operator(least: u8, tokens: &[Lexeme<'_>]) -> Option<Op>
+    ensures { result ≡ spec.next_operator least tokens.now }
+{
+    match operator(next(tokens)) {
+        None => None,
+        Some(op) => { if level(op) < least { None } else { Some(op) } }
+    }
+}
+
+fn binary(alloc: Global, op: Op, left: Expr, right: Expr) -> Result<Expr, AllocError>
+    ensures { IfOk result (λ e. e ≡ Expr.Binary op left right) }
+{
+    Ok(Expr::Binary {
+        op,
+        left: Boxed::new(alloc, left)?,
+        right: Boxed::new(alloc, right)?,
+    })
+}
+
+#[cycle(expr)]
+#[tactic(auto, unfolding(crate::specs::Reading::parted))]
+fn arguments<'t>(alloc: Global, allowance: usize, tokens: &'t [Lexeme<'t>]) -> Read<'t, Items<Expr>>
+    requires { allowance < 1000 }
+    ensures gives { Gives (λ x. (x.0, x.1, x.2.now)) result (spec.list_of (spec.expr allowance 0) tokens.now) }
+    ensures within { IfOk result (λ x. x.1 ≤ allowance) }
+{
+    let mut found = Items::new(alloc);
+    let mut depth: usize = 0;
+    let mut rest = tokens;
+    for _turn in 0..tokens.len() + 1 {
+        let (x, at, after) = expr(alloc, allowance, 0, rest)?;
+        found.push(x)?;
+        depth = depth.max(at);
+        if sees(Terminal::Comma, after) {
+            rest = behind(after);
+        } else {
+            let after = expect(Terminal::Close, after)?;
+            return Ok((found, depth, after));
+        }
+    }
+    Err(ReadError::Syntax(rest.len()))
+}
+
+#[cycle(expr)]
+#[tactic(auto, unfolding(crate::specs::Reading::call))]
+fn call<'t>(
+    alloc: Global,
+    allowance: usize,
+    name: &Lexeme<'t>,
+    tokens: &'t [Lexeme<'t>],
+) -> Read<'t, Expr>
+    requires { allowance < 1000 }
+    ensures gives { Gives (λ x. (x.0, x.1, x.2.now)) result (spec.call allowance (spec.expr allowance) name.now tokens.now) }
+    ensures within { IfOk result (λ x. x.1 ≤ allowance + 1) }
+{
+    room_told(allowance, tokens)?;
+    let (args, depth, rest) = arguments(alloc, allowance, behind(tokens))?;
+    let function = name.word(alloc)?;
+    Ok((Expr::Call { function, args }, depth + 1, rest))
+}
+
+#[tactic(auto, unfolding(crate::specs::Reading::member))]
+fn member<'t>(alloc: Global, name: &Lexeme<'t>, tokens: &'t [Lexeme<'t>]) -> Read<'t, Expr>
+    ensures gives { Gives (λ x. (x.0, x.1, x.2.now)) result (spec.member name.now tokens.now) }
+    ensures within { IfOk result (λ x. x.1 ≤ 1) }
+{
+    let (output, rest) = name_at(alloc, behind(tokens))?;
+    let instance = name.word(alloc)?;
+    Ok((Expr::Member { instance, output }, 1, rest))
+}
+
+#[cycle(expr)]
+#[tactic(auto, unfolding(crate::specs::Reading::bracketed))]
+fn bracketed<'t>(alloc: Global, allowance: usize, tokens: &'t [Lexeme<'t>]) -> Read<'t, Expr>
+    requires { allowance < 1000 }
+    ensures gives { Gives (λ x. (x.0, x.1, x.2.now)) result (spec.bracketed allowance (spec.expr allowance) tokens.now) }
+    ensures within { IfOk result (λ x. x.1 ≤ allowance + 1) }
+{
+    room(allowance, tokens)?;
+    let (inner, depth, rest) = expr(alloc, allowance, 0, behind(tokens))?;
+    let rest = expect(Terminal::Close, rest)?;
+    Ok((inner, depth + 1, rest))
+}
+
+#[cycle(expr)]
+#[tactic(auto, unfolding(crate::specs::Reading::negated))]
+fn negated<'t>(
+    alloc: Global,
+    allowance: usize,
+    word: &Lexeme<'t>,
+    tokens: &'t [Lexeme<'t>],
+) -> Read<'t, Expr>
+    requires { allowance < 1000 }
+    ensures gives { Gives (λ x. (x.0, x.1, x.2.now)) result (spec.negated allowance (spec.expr allowance) word.now tokens.now) }
+    ensures within { IfOk result (λ x. x.1 ≤ allowance + 1) }
+{
+    room(allowance, tokens)?;
+    let (inner, depth, rest) = expr(alloc, allowance, 7, behind(tokens))?;
+    let node = Expr::Not {
+        operand: Boxed::new(alloc, inner)?,
+        span: word.span(),
+    };
+    Ok((node, depth + 1, rest))
+}
+
+#[cycle(expr)]
+fn named<'t>(
+    alloc: Global,
+    allowance: usize,
+    name: &Lexeme<'t>,
+    tokens: &'t [Lexeme<'t>],
+) -> Read<'t, Expr>
+    requires { allowance < 1000 }
+    ensures gives { Gives (λ x. (x.0, x.1, x.2.now)) result (spec.named_by allowance (spec.expr allowance) (spec.next tokens.now) name.now tokens.now) }
+    ensures within { IfOk result (λ x. x.1 ≤ allowance + 1) }
+{
+    match next(tokens) {
+        Terminal::Open => call(alloc, allowance, name, tokens),
+        Terminal::Dot => member(alloc, name, tokens),
+        _ => Ok((Expr::Name(name.word(alloc)?), 1, tokens)),
+    }
+}
+
+#[tactic(auto, unfolding(crate::specs::Reading::valued))]
+fn valued<'t>(tokens: &'t [Lexeme<'t>]) -> Read<'t, Expr>
+    ensures gives { Gives (λ x. (x.0, x.1, x.2.now)) result (spec.valued tokens.now) }
+    ensures within { IfOk result (λ x. x.1 ≤ 1) }
+{
+    let (number, rest) = literal_at(tokens)?;
+    Ok((Expr::Number(number), 1, rest))
+}
+
+#[cycle(expr)]
+#[tactic(auto, unfolding(crate::specs::Reading::operand))]
+fn operand<'t>(alloc: Global, allowance: usize, tokens: &'t [Lexeme<'t>]) -> Read<'t, Expr>
+    requires { allowance < 1000 }
+    ensures gives { Gives (λ x. (x.0, x.1, x.2.now)) result (spec.operand allowance (spec.expr allowance) tokens.now) }
+    ensures within { IfOk result (λ x. x.1 ≤ allowance + 1) }
+{
+    match tokens {
+        [] => Err(ReadError::Syntax(0)),
+        [x, rest @ ..] => match x.terminal() {
+            Terminal::Name => named(alloc, allowance, x, rest),
+            Terminal::Number => valued(tokens),
+            Terminal::Open => bracketed(alloc, allowance, tokens),
+            Terminal::Not => negated(alloc, allowance, x, tokens),
+            _ => Err(ReadError::Syntax(tokens.len())),
+        },
+    }
+}
+
+#[cycle(expr)]
+#[tactic(auto, unfolding(crate::specs::Reading::climb))]
+fn climb<'t>(
+    alloc: Global,
+    allowance: usize,
+    least: u8,
+    first: Expr,
+    height: usize,
+    tokens: &'t [Lexeme<'t>],
+) -> Read<'t, Expr>
+    requires limit { allowance < 1000 }
+    requires first { height ≤ allowance + 1 }
+    ensures gives { Gives (λ x. (x.0, x.1, x.2.now)) result (spec.climb allowance (spec.expr allowance) (allowance + 1) least first height tokens.now) }
+    ensures within { IfOk result (λ x. x.1 ≤ allowance + 1) }
+{
+    let mut left = first;
+    let mut depth = height;
+    let mut rest = tokens;
+    for _turn in 0..allowance + 1 {
+        let Some(op) = next_operator(least, rest) else {
+            return Ok((left, depth, rest));
+        };
+        if allowance < depth {
+            return Err(ReadError::TooDeep(rest.len()));
+        }
+        let (right, at, after) = expr(alloc, allowance, level(op) + 1, behind(rest))?;
+        left = binary(alloc, op, left, right)?;
+        depth = depth.max(at) + 1;
+        rest = onward(after);
+    }
+    if next_operator(least, rest).is_some() {
+        return Err(ReadError::TooDeep(rest.len()));
+    }
+    Ok((left, depth, rest))
+}
+
+/// An expression of at most that depth, with operators that bind no looser than `least`.
+#[cycle(expr)]
+#[tactic(auto, unfolding(crate::specs::Reading::expr, crate::specs::Reading::level_of))]
+pub fn expr<'t>(
+    alloc: Global,
+    allowance: usize,
+    least: u8,
+    tokens: &'t [Lexeme<'t>],
+) -> Read<'t, Expr>
+    requires { allowance ≤ 1000 }
+    ensures gives { Gives (λ x. (x.0, x.1, x.2.now)) result (spec.expr allowance least tokens.now) }
+    ensures within { IfOk result (λ x. x.1 ≤ allowance) }
+{
+    if allowance == 0 {
+        return Err(ReadError::TooDeep(tokens.len()));
+    }
+    let (first, height, rest) = operand(alloc, allowance - 1, tokens)?;
+    climb(alloc, allowance - 1, least, first, height, rest)
+}

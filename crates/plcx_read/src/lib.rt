@@ -1,0 +1,27 @@
+//! The reader of a text.
+#![tactic(auto)]
+
+mod declaration;
+mod expression;
+mod fault;
+mod lexeme;
+mod place;
+mod printed;
+mod statement;
+mod text;
+mod token;
+mod unit;
+
+pub use place::one_place;
+pub use plcx_lex::{TextError, TextToken, TokenKind, tokens};
+pub use printed::read_printed;
+pub use text::{one_unit, read};
+
+#[cfg(test)]
+mod machine;
+#[cfg(test)]
+mod place_tests;
+#[cfg(test)]
+mod printed_tests;
+#[cfg(test)]
+mod tests;

@@ -1,0 +1,115 @@
+ghost use Rattle.std.specs.Prelude.{◌≡◌, ◌≤◌, ◌<◌, ◌+◌, IfOk};
+ghost use Rattle.plcx_st.specs.Grammar.{ending};
+ghost use Rattle.plcx_read.specs.Reading as spec;
+ghost use Rattle.plcx_read.specs.Gives.{Gives};
+
+use crate::declaration::blocks;
+use crate::fault::ReadError;
+use crate::lexeme::Lexeme;
+use crate::statement::statements;
+use crate::token::{Part, Read, behind, expect, name_at, next, onward};
+use plcx_st::{PouText, Terminal, TextKind};
+use sqlite_items::Items;
+use std::alloc::Global;
+
+fn ending(kind: TextKind) -> Terminal
+    ensures { result ≡ ending kind }
+{
+    match kind {
+        TextKind::Program => Terminal::EndProgram,
+        TextKind::FunctionBlock => Terminal::EndFunctionBlock,
+    }
+}
+
+#[tactic(auto, unfolding(crate::specs::Reading::pou_of))]
+fn pou_of<'t>(
+    alloc: Global,
+    allowance: usize,
+    kind: TextKind,
+    tokens: &'t [Lexeme<'t>],
+) -> Read<'t, PouText>
+    requires { allowance < 1000 }
+    ensures gives { Gives (λ x. (x.0, x.1, x.2.now)) result (spec.pou_of allowance kind tokens.now) }
+    ensures within { IfOk result (λ x. x.1 ≤ allowance + 1) }
+{
+    let (name, rest) = name_at(alloc, behind(tokens))?;
+    let (blocks, rest) = blocks(alloc, rest)?;
+    let (body, depth, rest) = statements(alloc, allowance, rest)?;
+    let rest = expect(ending(kind), rest)?;
+    let pou = PouText {
+        kind,
+        name,
+        blocks,
+        body,
+    };
+    Ok((pou, depth + 1, rest))
+}
+
+#[tactic(auto, unfolding(crate::specs::Reading::pou))]
+fn pou<'t>(alloc: Global, allowance: usize, tokens: &'t [Lexeme<'t>]) -> Read<'t, PouText>
+    requires { allowance ≤ 1000 }
+    ensures gives { Gives (λ x. (x.0, x.1, x.2.now)) result (spec.pou allowance tokens.now) }
+    ensures within { IfOk result (λ x. x.1 ≤ allowance) }
+{
+    if allowance == 0 {
+        return Err(ReadError::TooDeep(tokens.len()));
+    }
+    match tokens {
+        [] => Err(ReadError::Syntax(0)),
+        [x, ..] => match x.terminal() {
+            Terminal::Program => pou_of(alloc, allowance - 1, TextKind::Program, tokens),
+            Terminal::FunctionBlock => {
+                pou_of(alloc, allowance - 1, TextKind::FunctionBlock, tokens)
+            }
+            _ => Err(ReadError::Syntax(tokens.len())),
+        },
+    }
+}
+
+fn begins_pou(terminal: Terminal) -> bool
+    ensures { result ≡ spec.begins_pou terminal }
+{
+    matches!(terminal, Terminal::Program | Terminal::FunctionBlock)
+}
+
+#[tactic(auto, unfolding(crate::specs::Reading::several))]
+fn several<'t>(
+    alloc: Global,
+    allowance: usize,
+    tokens: &'t [Lexeme<'t>],
+) -> Read<'t, Items<PouText>>
+    requires { allowance ≤ 1000 }
+    ensures gives { Gives (λ x. (x.0, x.1, x.2.now)) result (spec.all_of spec.begins_pou (spec.pou allowance) tokens.now) }
+    ensures within { IfOk result (λ x. x.1 ≤ allowance) }
+{
+    let mut found = Items::new(alloc);
+    let mut depth: usize = 0;
+    let mut rest = tokens;
+    for _turn in 0..tokens.len() + 1 {
+        if !begins_pou(next(rest)) {
+            return Ok((found, depth, rest));
+        }
+        let (x, at, after) = pou(alloc, allowance, rest)?;
+        found.push(x)?;
+        depth = depth.max(at);
+        rest = onward(after);
+    }
+    Err(ReadError::Syntax(rest.len()))
+}
+
+/// The POUs that all of the tokens are, each of at most that depth.
+#[tactic(auto, unfolding(crate::specs::Reading::pous))]
+pub fn pous<'t>(
+    alloc: Global,
+    allowance: usize,
+    tokens: &'t [Lexeme<'t>],
+) -> Result<Items<PouText>, ReadError>
+    requires { allowance ≤ 1000 }
+    ensures { Gives (λ x. x) result (spec.pous allowance tokens.now) }
+{
+    let (pous, _, rest) = several(alloc, allowance, tokens)?;
+    if rest.len() != 0 {
+        return Err(ReadError::Syntax(rest.len()));
+    }
+    Ok(pous)
+}
