@@ -1,11 +1,11 @@
 -- The passes of the compiler, one after another.
-use Rattle.std.proofs.Common.{◌≡◌, ℕ, List, [], ◌∷◌, ◌≤◌, ◌^◌, length, arith, refl, ap, sym, ◌∙◌, subst, get_or, Some, None}
+use Rattle.std.proofs.Common.{◌≡◌, ℕ, List, [], ◌∷◌, ◌≤◌, ◌^◌, length, arith, ap, sym, ◌∙◌, subst, get_or, Some, None}
 use Rattle.plcx_meaning.specs.Base.{Each}
 use Rattle.plcx_meaning.specs.Diagram as diagram
 use Rattle.plcx_meaning.specs.Templates.{unit_of}
-use Rattle.plcx_meaning.specs.Fits.{PouFits, ProjectFits}
+use Rattle.plcx_meaning.specs.Tree.{PouText}
+use Rattle.plcx_meaning.specs.Fits.{ProjectFits}
 use Rattle.plcx_meaning.specs.Ready.{IsReady}
-use Rattle.plcx_meaning.specs.Spelled.{IsSpelled}
 use Rattle.plcx_meaning.specs.Same.{Behaves}
 use Rattle.plcx_model.specs.declared.project.Project.{Project}
 use Rattle.plcx_model.specs.declared.project.Pou.{Pou}
@@ -16,9 +16,12 @@ use Rattle.plcx_model.specs.Shape.{BodyIsFirst, IsFirstShape}
 use Rattle.plcx_model.specs.Networks.{AreNetworks}
 use Rattle.plcx_model.specs.DiagramOf.{diagram_of}
 use Rattle.plcx_st.specs.declared.tree.Unit.{Unit}
-use Rattle.plcx_st.specs.Grammar.{StandsForUnit}
+use Rattle.plcx_st.specs.Grammar.{limit}
+use Rattle.plcx_st.specs.Stands.{StandsFor}
 use Rattle.plcx_st.specs.Meant.{meant}
 use Rattle.plcx_st.specs.Print.{printed}
+use Rattle.plcx_st.specs.InRange.{UnitInRange}
+use Rattle.plcx_st.specs.Fitting.{UnitFits}
 use Rattle.plcx_xml.specs.declared.tree.Element.{Element}
 use Rattle.plcx_xml.specs.StandsForTree.{IsTreeOf, StandsForTree}
 use Rattle.plcx_profile.specs.ProjectAt.{project_at}
@@ -36,31 +39,30 @@ small-bodies (p ∷ ps) sound = (omega (arith, sound.0.bounded), small-bodies ps
 pub bodies_are_small : (project : Project) → Each IsSound project.pous → BodiesAreSmall project
 bodies_are_small project sound = small-bodies project.pous sound
 
-one_fits : (p : diagram.Pou) → PouFits p → ProjectFits (p ∷ [])
-one_fits p fits = record { names = refl; pous = (fits, tt) }
-
 -- what is printed of a unit that means the text of a diagram
 module _
+    (in_range : (project : diagram.Project) → ProjectFits project → UnitInRange (unit_of project))
+    (in_types : (project : diagram.Project) → ProjectFits project → UnitFits (unit_of project))
     (ready : (project : diagram.Project) → ProjectFits project → IsReady (unit_of project))
-    (spelled : (project : diagram.Project) → ProjectFits project → IsSpelled (unit_of project))
     (behaves : (project : diagram.Project) → ProjectFits project → Behaves project (unit_of project))
-    (one_unit : (bytes : List ℕ) (u v : Unit) → StandsForUnit bytes u → StandsForUnit bytes v → u ≡ v)
-    (again : (u : Unit) → IsSpelled (meant u) → (v : Unit) × StandsForUnit (printed (meant u)) v × (meant v ≡ meant u))
+    (one_unit : (bytes : List ℕ) (u v : Unit) (c d : ℕ) → StandsFor bytes u c → StandsFor bytes v d → u ≡ v)
+    (again : (unit : List PouText) → UnitInRange unit → UnitFits unit → (v : Unit) × (d : ℕ) × (d ≤ limit) × StandsFor (printed unit) v d × (meant v ≡ unit))
   where
-    read_back : (project : diagram.Project) (u : Unit) → ProjectFits project → meant u ≡ unit_of project → IsReadBack (printed (meant u)) project
-    read_back project u fits same =
-        let found = again u (rw same (spelled project fits)) in
-        let is : meant found.0 ≡ unit_of project = found.2 ∙ same in
+    read_back : (project : diagram.Project) → ProjectFits project → IsReadBack (printed (unit_of project)) project
+    read_back project fits =
+        let found = again (unit_of project) (in_range project fits) (in_types project fits) in
         record {
           unit = found.0;
-          stands = found.1;
-          only = λ other h. one_unit (printed (meant u)) other found.0 h found.1;
-          ready = rw is (ready project fits);
-          behaves = rw is (behaves project fits);
+          depth = found.1;
+          stands = found.3;
+          shallow = found.2;
+          only = λ other deep h. one_unit (printed (unit_of project)) other found.0 deep found.1 h found.3;
+          ready = subst IsReady (sym found.4) (ready project fits);
+          behaves = subst (Behaves project) (sym found.4) (behaves project fits);
         }
 
     pub text_made : (project : Project) (p : Pou) (ns : List (List model.Element)) (u : Unit) (text : List ℕ)
-        → project.pous ≡ p ∷ [] → BodyIsFirst p → AreNetworks p ns → PouFits (diagram_of p ns) → meant u ≡ unit_of (diagram_of p ns ∷ []) → text ≡ printed (meant u)
+        → project.pous ≡ p ∷ [] → BodyIsFirst p → AreNetworks p ns → ProjectFits (diagram_of p ns ∷ []) → meant u ≡ unit_of (diagram_of p ns ∷ []) → text ≡ printed (meant u)
         → IsTextOf project text
     text_made project p ns u text one first order fits same printed_is = record {
       pou = p;
@@ -69,7 +71,7 @@ module _
       first = first;
       order = order;
       text_is = printed_is ∙ ap printed same;
-      read_back = rw printed_is (read_back (diagram_of p ns ∷ []) u (one_fits _ fits) same);
+      read_back = subst (λ t. IsReadBack t (diagram_of p ns ∷ [])) (sym (printed_is ∙ ap printed same)) (read_back (diagram_of p ns ∷ []) fits);
     }
 
 -- bytes whose one tree stands for no project have not the form

@@ -1,5 +1,5 @@
 -- Which files have the form that is built by now, and which text each has.
-use Rattle.std.specs.Prelude.{◌≡◌, ℕ, List, [], ◌∷◌, Some}
+use Rattle.std.specs.Prelude.{◌≡◌, ◌≤◌, ℕ, List, [], ◌∷◌, Some}
 use Rattle.plcx_meaning.specs.Diagram as diagram
 use Rattle.plcx_meaning.specs.Templates.{unit_of}
 use Rattle.plcx_meaning.specs.Ready.{IsReady}
@@ -14,7 +14,8 @@ use Rattle.plcx_model.specs.Networks.{AreNetworks}
 use Rattle.plcx_model.specs.DiagramOf.{diagram_of}
 use Rattle.plcx_profile.specs.ProjectAt.{project_at}
 use Rattle.plcx_st.specs.declared.tree.Unit.{Unit}
-use Rattle.plcx_st.specs.Grammar.{StandsForUnit}
+use Rattle.plcx_st.specs.Grammar.{limit}
+use Rattle.plcx_st.specs.Stands.{StandsFor}
 use Rattle.plcx_st.specs.Meant.{meant}
 use Rattle.plcx_st.specs.Print.{printed}
 
@@ -29,8 +30,10 @@ pub record HasFirstForm (bytes : List ℕ) : Type 0 where
 -- Read back from its bytes, the text is exactly one unit, which is ready and does what the diagrams do.
 pub record IsReadBack (text : List ℕ) (diagrams : diagram.Project) : Type 0 where
   pub unit : Unit
-  pub stands : StandsForUnit text unit
-  pub only : (other : Unit) → StandsForUnit text other → other ≡ unit
+  pub depth : ℕ
+  pub stands : StandsFor text unit depth
+  pub shallow : depth ≤ limit
+  pub only : (other : Unit) (deep : ℕ) → StandsFor text other deep → other ≡ unit
   pub ready : IsReady (meant unit)
   pub behaves : Behaves diagrams (meant unit)
 

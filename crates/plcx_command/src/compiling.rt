@@ -6,7 +6,8 @@ use plcx_jump::compile;
 use plcx_model::{Plan, Project, diagrams_fit};
 use plcx_order::{PlanError, plan};
 use plcx_profile::{ProfileError, project_of, sound_projects};
-use plcx_st::{one_unit, print, read_again};
+use plcx_read::one_unit;
+use plcx_st::{print, read_again, texts_are_in_range};
 use plcx_types::NoMemory;
 use plcx_xml::{XmlError, one_tree, read_tree};
 use std::alloc::Global;
@@ -18,6 +19,8 @@ fn text_of(alloc: Global, project: &Project, plan: &Plan) -> Result<Vec<u8>, NoM
     ensures { IfOk result (λ text. IsTextOf project.now text.items) }
 {
     diagrams_fit();
+    texts_are_in_range();
+    texts_are_ready();
     same_behavior();
     one_unit();
     read_again();
@@ -33,7 +36,7 @@ ghost use Rattle.plcx_model.specs.Sound.{IsSound};
 ghost use Rattle.plcx_order.specs.Planned.{IsPlanned};
 ghost use Rattle.plcx_command.specs.FirstForm.{IsTextOf};
 
-use plcx_meaning::same_behavior;
+use plcx_meaning::{same_behavior, texts_are_ready};
 
 /// The text of the file, or that it has not the form which is built.
 pub fn compile_bytes(alloc: Global, bytes: &[u8]) -> Result<Option<Vec<u8>>, NoMemory>

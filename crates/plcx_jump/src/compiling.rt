@@ -5,6 +5,7 @@ ghost use Rattle.plcx_model.specs.DiagramOf.{diagram_of};
 ghost use Rattle.plcx_model.specs.PlanOf.{networks_of};
 ghost use Rattle.plcx_st.specs.Meant.{meant, block_meant};
 ghost use Rattle.plcx_jump.specs.Named.{AreNamed};
+ghost use Rattle.plcx_jump.specs.Texts.{blocks_of};
 
 use crate::declaring::{put_block, variable_decls, wire_decls};
 use crate::stating::statements;
@@ -16,8 +17,7 @@ use sqlite_items::Items;
 use std::alloc::Global;
 
 fn blocks_of(alloc: Global, pou: &Pou) -> Result<Vec<TextBlock>, NoMemory>
-    ensures { IfOk result (λ blocks. map block_meant blocks.items
-        ≡ block Var (map variable_text (map variable_of pou.now.variables)) ++ block VarTemp (flat_map element_wires (map (element_of pou.now) pou.now.elements))) }
+    ensures { IfOk result (λ blocks. map block_meant blocks.items ≡ blocks_of pou.now) }
 {
     let mut blocks = Vec::new(alloc);
     let variables = variable_decls(alloc, pou.variables.as_slice())?;
@@ -27,11 +27,7 @@ fn blocks_of(alloc: Global, pou: &Pou) -> Result<Vec<TextBlock>, NoMemory>
     Ok(blocks)
 }
 
-ghost use Rattle.std.specs.Prelude.{map, ◌++◌};
-ghost use Rattle.std.specs.List.{flat_map};
-ghost use Rattle.plcx_meaning.specs.Text.{Var, VarTemp};
-ghost use Rattle.plcx_meaning.specs.Templates.{block, variable_text, element_wires};
-ghost use Rattle.plcx_model.specs.DiagramOf.{variable_of, element_of};
+ghost use Rattle.std.specs.Prelude.{map};
 
 /// The unit of a program, whose networks stand in the plan. Its words stand nowhere yet.
 pub fn compile(alloc: Global, pou: &Pou, plan: &Plan) -> Result<Unit, NoMemory>

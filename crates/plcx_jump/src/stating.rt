@@ -1,15 +1,16 @@
 //! The statements of a POU.
 ghost use Rattle.std.specs.Prelude.{◌≡◌, ◌++◌, IfOk, map};
 ghost use Rattle.std.specs.List.{flat_map};
-ghost use Rattle.plcx_meaning.specs.Templates.{element_text, network_text};
+ghost use Rattle.plcx_meaning.specs.Templates.{element_text, elements_text, straight_text};
 ghost use Rattle.plcx_model.specs.DiagramOf.{element_of, first_source};
 ghost use Rattle.plcx_model.specs.PlanOf.{elements_at, networks_of};
 ghost use Rattle.plcx_st.specs.Meant.{stmt_meant};
 ghost use Rattle.plcx_jump.specs.Named.{NamesOne};
+ghost use Rattle.plcx_jump.specs.Texts.{statements_of};
 
 use crate::words::{variable_word, wire_word};
 use plcx_model::{Connection, Element, Kind, Plan, Pou};
-use plcx_st::{Expr, Stmt};
+use plcx_st::{Expr, Stmt, Word};
 use plcx_types::NoMemory;
 use sqlite_items::at;
 use std::alloc::Global;
@@ -23,6 +24,18 @@ fn first_source(input: &[Connection]) -> u64
     }
 }
 
+/// The variable gets the other one's value.
+fn assignment(target: Word, value: Word) -> Stmt
+    ensures { stmt_meant result ≡ Assign target.name (Name value.name) }
+{
+    Stmt::Assign {
+        target,
+        value: Expr::Name(value),
+    }
+}
+
+ghost use Rattle.plcx_meaning.specs.Tree.{Name, Assign};
+
 /// The statement of an element.
 fn put_element(
     alloc: Global,
@@ -35,14 +48,14 @@ fn put_element(
 {
     let variables = pou.variables.as_slice();
     let stmt = match &element.kind {
-        Kind::In { text } => Stmt::Assign {
-            target: wire_word(alloc, element.local_id)?,
-            value: Expr::Name(variable_word(alloc, variables, text.as_slice())?),
-        },
-        Kind::Out { text, input } => Stmt::Assign {
-            target: variable_word(alloc, variables, text.as_slice())?,
-            value: Expr::Name(wire_word(alloc, first_source(input.as_slice()))?),
-        },
+        Kind::In { text } => assignment(
+            wire_word(alloc, element.local_id)?,
+            variable_word(alloc, variables, text.as_slice())?,
+        ),
+        Kind::Out { text, input } => assignment(
+            variable_word(alloc, variables, text.as_slice())?,
+            wire_word(alloc, first_source(input.as_slice()))?,
+        ),
     };
     body.push(stmt)?;
     Ok(())
@@ -70,7 +83,7 @@ fn put_network(
 ) -> Result<(), NoMemory>
     requires { AreNamed pou.now }
     ensures { IfOk result (λ _. map stmt_meant body.new.items ≡ map stmt_meant body.old.items
-        ++ network_text (map (element_of pou.now) (elements_at pou.now.elements places.now))) }
+        ++ elements_text (map (element_of pou.now) (elements_at pou.now.elements places.now))) }
 {
     for place in places {
         if let Some(element) = element_at(pou, *place) {
@@ -84,7 +97,7 @@ fn put_network(
 pub fn statements(alloc: Global, pou: &Pou, plan: &Plan) -> Result<Vec<Stmt>, NoMemory>
     requires { AreNamed pou.now }
     ensures { IfOk result (λ body. map stmt_meant body.items
-        ≡ flat_map network_text (map (map (element_of pou.now)) (networks_of pou.now.elements plan.now))) }
+        ≡ statements_of pou.now (networks_of pou.now.elements plan.now)) }
 {
     let mut body = Vec::new(alloc);
     for network in plan.networks.as_slice() {

@@ -1,10 +1,9 @@
 //! Words of the text, which stand nowhere yet.
-ghost use Rattle.std.specs.Prelude.{◌≡◌, ◌<◌, ◌^◌, IfOk, IsTrue, true};
+ghost use Rattle.std.specs.Prelude.{◌≡◌, [], IfOk, IsTrue, true};
 ghost use Rattle.plcx_types.specs.Name.{is_identifier};
 ghost use Rattle.plcx_meaning.specs.Templates.{wire_name};
 ghost use Rattle.plcx_model.specs.Names.{names_one, declared_name};
 
-use plcx_meaning::wires_are_names;
 use plcx_model::{Variable, variable_named};
 use plcx_st::Word;
 use plcx_types::{Ident, IdentError, NoMemory, Span};
@@ -40,10 +39,10 @@ pub fn word_named(alloc: Global, spelling: &[u8]) -> Result<Word, NoMemory>
 }
 
 /// The temporary of an element's wire.
+#[tactic(auto, using(crate::proofs::WireNames::spelled_wire, crate::proofs::WireNames::wire_spelling))]
 pub fn wire_word(alloc: Global, id: u64) -> Result<Word, NoMemory>
-    ensures { IfOk result (λ word. word.name ≡ wire_name id) }
+    ensures { IfOk result (λ word. word.name ≡ wire_name id []) }
 {
-    wires_are_names();
     let spelling = format!(in alloc; "PLCX_W{id}")?;
     word_named(alloc, spelling.as_bytes())
 }

@@ -1,3 +1,4 @@
 pub mod Members
 pub mod Fitting
 pub mod Named
+mod Counting

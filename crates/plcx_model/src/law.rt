@@ -1,6 +1,6 @@
 //! Laws of the definitions, each on a function of its own.
-ghost use Rattle.std.specs.Prelude.{List};
-ghost use Rattle.plcx_meaning.specs.Fits.{PouFits};
+ghost use Rattle.std.specs.Prelude.{List, [], ◌∷◌};
+ghost use Rattle.plcx_meaning.specs.Fits.{ProjectFits};
 ghost use Rattle.plcx_model.specs.declared.project.Element.{Element};
 ghost use Rattle.plcx_model.specs.declared.project.Pou.{Pou};
 ghost use Rattle.plcx_model.specs.Sound.{IsSound};
@@ -8,7 +8,7 @@ ghost use Rattle.plcx_model.specs.Shape.{BodyIsFirst};
 ghost use Rattle.plcx_model.specs.Networks.{AreNetworks};
 ghost use Rattle.plcx_model.specs.DiagramOf.{diagram_of};
 
-/// A body that is sound and built, with its networks, is a diagram that fits.
+/// A program whose body is sound and built, with its networks, is a project that fits.
 pub fn diagrams_fit()
-    ensures { (p : Pou) (ns : List (List Element)) → IsSound p → BodyIsFirst p → AreNetworks p ns → PouFits (diagram_of p ns) }
+    ensures { (p : Pou) (ns : List (List Element)) → IsSound p → BodyIsFirst p → AreNetworks p ns → ProjectFits (diagram_of p ns ∷ []) }
 {}

@@ -15,5 +15,5 @@ returns c =
     let sound = rw c.requires.planned.one at c.requires.sound in
     let fits = c.diagrams_fit.ensures p (networks_of p.elements c.args.plan.now) sound.0 c.requires.planned.built c.requires.planned.networks in
     let means : meant c.in_ok-unit.unit ≡ unit_of (diagram_of p (networks_of p.elements c.args.plan.now) ∷ []) = rw same at c.in_ok-unit.ensures in
-    IfOk-weaker c.print.result _ _ (λ text e. text_made c.same_behavior.ensures.ready c.same_behavior.ensures.spelled c.same_behavior.ensures.behaves c.one_unit.ensures c.read_again.ensures
-    c.args.project.now p (networks_of p.elements c.args.plan.now) c.in_ok-unit.unit text.items c.requires.planned.one c.requires.planned.built c.requires.planned.networks fits means e) c.print.ensures
+    IfOk-weaker c.print.result _ _ (λ text e. text_made c.texts_are_in_range.ensures.range c.texts_are_in_range.ensures.fits c.texts_are_ready.ensures c.same_behavior.ensures.behaves c.one_unit.ensures c.read_again.ensures
+    c.args.project.now p (networks_of p.elements c.args.plan.now) c.in_ok-unit.unit text.items c.requires.planned.one c.requires.planned.built c.requires.planned.networks fits means e) c.print.ensures.printed

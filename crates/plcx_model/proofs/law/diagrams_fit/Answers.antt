@@ -1,5 +1,5 @@
-use Rattle.plcx_model.proofs.Fitting.{diagram_fits}
+use Rattle.plcx_model.proofs.Fitting.{project_fits}
 use Rattle.plcx_model.proofs.law.diagrams_fit.Goals as goal
 
 pub returns : goal.returns
-returns c = diagram_fits
+returns c = project_fits
