@@ -7,14 +7,14 @@ use Rattle.plcx_meaning.specs.Tree.{PouText}
 use Rattle.plcx_meaning.specs.Fits.{ProjectFits}
 use Rattle.plcx_meaning.specs.Ready.{IsReady}
 use Rattle.plcx_meaning.specs.Same.{Behaves}
-use Rattle.plcx_model.specs.declared.project.Project.{Project}
-use Rattle.plcx_model.specs.declared.project.Pou.{Pou}
-use Rattle.plcx_model.specs.declared.project.Element as model
-use Rattle.plcx_model.specs.Sound.{IsSound}
-use Rattle.plcx_order.specs.Planned.{BodiesAreSmall}
-use Rattle.plcx_model.specs.Shape.{BodyIsFirst, IsFirstShape}
-use Rattle.plcx_model.specs.Networks.{AreNetworks}
-use Rattle.plcx_model.specs.DiagramOf.{diagram_of}
+use Rattle.plcx_first_model.specs.declared.project.Project.{Project}
+use Rattle.plcx_first_model.specs.declared.project.Pou.{Pou}
+use Rattle.plcx_first_model.specs.declared.project.Element as model
+use Rattle.plcx_first_model.specs.Sound.{IsSound}
+use Rattle.plcx_first_order.specs.Planned.{BodiesAreSmall}
+use Rattle.plcx_first_model.specs.Shape.{BodyIsFirst, IsFirstShape}
+use Rattle.plcx_first_model.specs.Networks.{AreNetworks}
+use Rattle.plcx_first_model.specs.DiagramOf.{diagram_of}
 use Rattle.plcx_st.specs.declared.tree.Unit.{Unit}
 use Rattle.plcx_st.specs.Grammar.{limit}
 use Rattle.plcx_st.specs.Stands.{StandsFor}
@@ -24,7 +24,7 @@ use Rattle.plcx_st.specs.InRange.{UnitInRange}
 use Rattle.plcx_st.specs.Fitting.{UnitFits}
 use Rattle.plcx_xml.specs.declared.tree.Element.{Element}
 use Rattle.plcx_xml.specs.StandsForTree.{IsTreeOf, StandsForTree}
-use Rattle.plcx_profile.specs.ProjectAt.{project_at}
+use Rattle.plcx_first_profile.specs.ProjectAt.{project_at}
 use Rattle.plcx_command.specs.FirstForm.{IsTextOf, IsReadBack, IsCompiled, HasFirstForm}
 
 -- the one item of a list

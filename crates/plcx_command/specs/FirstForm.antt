@@ -6,13 +6,13 @@ use Rattle.plcx_meaning.specs.Ready.{IsReady}
 use Rattle.plcx_meaning.specs.Same.{Behaves}
 use Rattle.plcx_xml.specs.declared.tree.Element.{Element}
 use Rattle.plcx_xml.specs.StandsForTree.{IsTreeOf}
-use Rattle.plcx_model.specs.declared.project.Project.{Project}
-use Rattle.plcx_model.specs.declared.project.Pou.{Pou}
-use Rattle.plcx_model.specs.declared.project.Element as model
-use Rattle.plcx_model.specs.Shape.{BodyIsFirst, IsFirstShape}
-use Rattle.plcx_model.specs.Networks.{AreNetworks}
-use Rattle.plcx_model.specs.DiagramOf.{diagram_of}
-use Rattle.plcx_profile.specs.ProjectAt.{project_at}
+use Rattle.plcx_first_model.specs.declared.project.Project.{Project}
+use Rattle.plcx_first_model.specs.declared.project.Pou.{Pou}
+use Rattle.plcx_first_model.specs.declared.project.Element as model
+use Rattle.plcx_first_model.specs.Shape.{BodyIsFirst, IsFirstShape}
+use Rattle.plcx_first_model.specs.Networks.{AreNetworks}
+use Rattle.plcx_first_model.specs.DiagramOf.{diagram_of}
+use Rattle.plcx_first_profile.specs.ProjectAt.{project_at}
 use Rattle.plcx_st.specs.declared.tree.Unit.{Unit}
 use Rattle.plcx_st.specs.Grammar.{limit}
 use Rattle.plcx_st.specs.Stands.{StandsFor}

@@ -3,9 +3,9 @@ ghost use Rattle.std.specs.Prelude.{◌≡◌, IfOk, MatchOption};
 ghost use Rattle.plcx_command.specs.FirstForm.{HasFirstForm, IsCompiled};
 
 use plcx_jump::compile;
-use plcx_model::{Plan, Project, diagrams_fit};
-use plcx_order::{PlanError, plan};
-use plcx_profile::{ProfileError, project_of, sound_projects};
+use plcx_first_model::{Plan, Project, diagrams_fit};
+use plcx_first_order::{PlanError, plan};
+use plcx_first_profile::{ProfileError, project_of, sound_projects};
 use plcx_read::one_unit;
 use plcx_st::{print, read_again, texts_are_in_range};
 use plcx_types::NoMemory;
@@ -32,8 +32,8 @@ fn text_of(alloc: Global, project: &Project, plan: &Plan) -> Result<Vec<u8>, NoM
 }
 
 ghost use Rattle.plcx_meaning.specs.Base.{Each};
-ghost use Rattle.plcx_model.specs.Sound.{IsSound};
-ghost use Rattle.plcx_order.specs.Planned.{IsPlanned};
+ghost use Rattle.plcx_first_model.specs.Sound.{IsSound};
+ghost use Rattle.plcx_first_order.specs.Planned.{IsPlanned};
 ghost use Rattle.plcx_command.specs.FirstForm.{IsTextOf};
 
 use plcx_meaning::{same_behavior, texts_are_ready};

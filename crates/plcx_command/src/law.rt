@@ -2,7 +2,7 @@
 ghost use Rattle.std.specs.Prelude.{◌≡◌, ℕ, List};
 ghost use Rattle.plcx_command.specs.FirstForm.{IsCompiled};
 
-use plcx_order::one_plan;
+use plcx_first_order::one_plan;
 use plcx_xml::one_tree;
 
 /// A file has one text at most.

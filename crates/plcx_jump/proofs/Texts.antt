@@ -5,11 +5,11 @@ use Rattle.std.proofs.lemmas.Bool.{or_from}
 use Rattle.plcx_meaning.specs.Tree.{Program, Local, Temp, Plain, Block, Declaration}
 use Rattle.plcx_meaning.specs.Diagram.{is_jump, has_jump}
 use Rattle.plcx_meaning.specs.Templates.{block, list_text, element_memories, element_wires, straight_text, body_text, counter, pou_text, unit_of}
-use Rattle.plcx_model.specs.declared.project.Kind.{Kind}
-use Rattle.plcx_model.specs.declared.project.Kind.TheVariants as kind
-use Rattle.plcx_model.specs.declared.project.Element.{Element}
-use Rattle.plcx_model.specs.declared.project.Pou.{Pou}
-use Rattle.plcx_model.specs.DiagramOf.{kind_of, element_of, list_of, diagram_of}
+use Rattle.plcx_first_model.specs.declared.project.Kind.{Kind}
+use Rattle.plcx_first_model.specs.declared.project.Kind.TheVariants as kind
+use Rattle.plcx_first_model.specs.declared.project.Element.{Element}
+use Rattle.plcx_first_model.specs.declared.project.Pou.{Pou}
+use Rattle.plcx_first_model.specs.DiagramOf.{kind_of, element_of, list_of, diagram_of}
 use Rattle.plcx_jump.specs.Texts.{blocks_of, first_text}
 
 -- no element jumps

@@ -1,11 +1,11 @@
 -- What a compiler asks of an element: its text names a variable.
 use Rattle.std.specs.Prelude.{◌≡◌, true}
-use Rattle.plcx_model.specs.declared.project.Kind.{Kind}
-use Rattle.plcx_model.specs.declared.project.Kind.TheVariants as kind
-use Rattle.plcx_model.specs.declared.project.Pou.{Pou}
-use Rattle.plcx_model.specs.declared.project.Element.{Element}
+use Rattle.plcx_first_model.specs.declared.project.Kind.{Kind}
+use Rattle.plcx_first_model.specs.declared.project.Kind.TheVariants as kind
+use Rattle.plcx_first_model.specs.declared.project.Pou.{Pou}
+use Rattle.plcx_first_model.specs.declared.project.Element.{Element}
 use Rattle.plcx_meaning.specs.Base.{Each}
-use Rattle.plcx_model.specs.Names.{names_one}
+use Rattle.plcx_first_model.specs.Names.{names_one}
 
 abbrev pub NamesOne : Pou → Kind → Type 0
 NamesOne p (kind.In text) = names_one p.variables text ≡ true

@@ -3,9 +3,9 @@ use Rattle.std.specs.Prelude.{List, ◌++◌, map}
 use Rattle.std.specs.List.{flat_map}
 use Rattle.plcx_meaning.specs.Tree.{Program, Local, Temp, Plain, Block, Statement, PouText}
 use Rattle.plcx_meaning.specs.Templates.{block, element_wires, straight_text}
-use Rattle.plcx_model.specs.declared.project.Element.{Element}
-use Rattle.plcx_model.specs.declared.project.Pou.{Pou}
-use Rattle.plcx_model.specs.DiagramOf.{element_of, declaration_of}
+use Rattle.plcx_first_model.specs.declared.project.Element.{Element}
+use Rattle.plcx_first_model.specs.declared.project.Pou.{Pou}
+use Rattle.plcx_first_model.specs.DiagramOf.{element_of, declaration_of}
 
 abbrev pub blocks_of : Pou → List Block
 blocks_of p = block Local Plain (map declaration_of p.variables) ++ block Temp Plain (flat_map element_wires (map (element_of p) p.elements))

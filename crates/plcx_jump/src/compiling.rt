@@ -1,8 +1,8 @@
 //! Units of POUs.
 ghost use Rattle.std.specs.Prelude.{◌≡◌, [], ◌∷◌, IfOk};
 ghost use Rattle.plcx_meaning.specs.Templates.{unit_of};
-ghost use Rattle.plcx_model.specs.DiagramOf.{diagram_of};
-ghost use Rattle.plcx_model.specs.PlanOf.{networks_of};
+ghost use Rattle.plcx_first_model.specs.DiagramOf.{diagram_of};
+ghost use Rattle.plcx_first_model.specs.PlanOf.{networks_of};
 ghost use Rattle.plcx_st.specs.Meant.{meant, block_meant};
 ghost use Rattle.plcx_jump.specs.Named.{AreNamed};
 ghost use Rattle.plcx_jump.specs.Texts.{blocks_of};
@@ -10,7 +10,7 @@ ghost use Rattle.plcx_jump.specs.Texts.{blocks_of};
 use crate::declaring::{put_block, variable_decls, wire_decls};
 use crate::stating::statements;
 use crate::words::word_like;
-use plcx_model::{Plan, Pou};
+use plcx_first_model::{Plan, Pou};
 use plcx_st::{PouText, TextBlock, TextClass, TextKind, Unit};
 use plcx_types::NoMemory;
 use sqlite_items::Items;

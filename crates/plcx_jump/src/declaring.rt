@@ -3,11 +3,11 @@ ghost use Rattle.std.specs.Prelude.{◌≡◌, ◌++◌, IfOk, map};
 ghost use Rattle.std.specs.List.{flat_map};
 ghost use Rattle.plcx_meaning.specs.Tree.{Plain};
 ghost use Rattle.plcx_meaning.specs.Templates.{element_wires, block};
-ghost use Rattle.plcx_model.specs.DiagramOf.{declaration_of, element_of};
+ghost use Rattle.plcx_first_model.specs.DiagramOf.{declaration_of, element_of};
 ghost use Rattle.plcx_st.specs.Meant.{decl_meant, block_meant, class_meant};
 
 use crate::words::{wire_word, word_like, word_named};
-use plcx_model::{Element, Kind, Pou, Variable};
+use plcx_first_model::{Element, Kind, Pou, Variable};
 use plcx_st::{Decl, Mark, TextBlock, TextClass, Word};
 use plcx_types::NoMemory;
 use sqlite_items::Items;

@@ -2,14 +2,14 @@
 ghost use Rattle.std.specs.Prelude.{◌≡◌, ◌++◌, IfOk, map};
 ghost use Rattle.std.specs.List.{flat_map};
 ghost use Rattle.plcx_meaning.specs.Templates.{element_text, elements_text, straight_text};
-ghost use Rattle.plcx_model.specs.DiagramOf.{element_of, first_source};
-ghost use Rattle.plcx_model.specs.PlanOf.{elements_at, networks_of};
+ghost use Rattle.plcx_first_model.specs.DiagramOf.{element_of, first_source};
+ghost use Rattle.plcx_first_model.specs.PlanOf.{elements_at, networks_of};
 ghost use Rattle.plcx_st.specs.Meant.{stmt_meant};
 ghost use Rattle.plcx_jump.specs.Named.{NamesOne};
 ghost use Rattle.plcx_jump.specs.Texts.{statements_of};
 
 use crate::words::{variable_word, wire_word};
-use plcx_model::{Connection, Element, Kind, Plan, Pou};
+use plcx_first_model::{Connection, Element, Kind, Plan, Pou};
 use plcx_st::{Expr, Stmt, Word};
 use plcx_types::NoMemory;
 use sqlite_items::at;

@@ -2,9 +2,9 @@
 ghost use Rattle.std.specs.Prelude.{◌≡◌, [], IfOk, IsTrue, true};
 ghost use Rattle.plcx_types.specs.Name.{is_identifier};
 ghost use Rattle.plcx_meaning.specs.Templates.{wire_name};
-ghost use Rattle.plcx_model.specs.Names.{names_one, declared_name};
+ghost use Rattle.plcx_first_model.specs.Names.{names_one, declared_name};
 
-use plcx_model::{Variable, variable_named};
+use plcx_first_model::{Variable, variable_named};
 use plcx_st::Word;
 use plcx_types::{Ident, IdentError, NoMemory, Span};
 use std::alloc::Global;

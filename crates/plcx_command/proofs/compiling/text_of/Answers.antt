@@ -1,8 +1,8 @@
 use Rattle.std.proofs.Common.{◌≡◌, ◌∙◌, ap, [], ◌∷◌, List, get_or}
 use Rattle.std.proofs.lemmas.Result.{IfOk-weaker}
-use Rattle.plcx_model.specs.declared.project.Pou.{Pou}
-use Rattle.plcx_model.specs.DiagramOf.{diagram_of}
-use Rattle.plcx_model.specs.PlanOf.{networks_of}
+use Rattle.plcx_first_model.specs.declared.project.Pou.{Pou}
+use Rattle.plcx_first_model.specs.DiagramOf.{diagram_of}
+use Rattle.plcx_first_model.specs.PlanOf.{networks_of}
 use Rattle.plcx_meaning.specs.Templates.{unit_of}
 use Rattle.plcx_st.specs.Meant.{meant}
 use Rattle.plcx_command.proofs.Composed.{the_item, text_made}

@@ -1,5 +1,5 @@
 use Rattle.std.proofs.Common.{rules, ◌≡◌, [], ◌∷◌, ◌∙◌, map}
-use Rattle.plcx_model.specs.PlanOf.{networks_of}
+use Rattle.plcx_first_model.specs.PlanOf.{networks_of}
 use Rattle.plcx_st.specs.Meant.{pou_meant}
 use Rattle.plcx_jump.specs.Texts.{first_text}
 use Rattle.plcx_jump.proofs.Texts.{first_unit}

@@ -1,5 +1,5 @@
 use Rattle.std.proofs.Common.{◌≡◌, ◌++◌, map, drop}
-use Rattle.plcx_model.specs.DiagramOf.{declaration_of}
+use Rattle.plcx_first_model.specs.DiagramOf.{declaration_of}
 use Rattle.plcx_st.specs.Meant.{decl_meant}
 use Rattle.plcx_jump.proofs.declaring.variable_decls.Given as goal
 

@@ -1,7 +1,7 @@
 use Rattle.std.proofs.Common.{◌≡◌, ◌++◌, map, drop}
 use Rattle.std.specs.List.{flat_map}
 use Rattle.plcx_meaning.specs.Templates.{element_wires}
-use Rattle.plcx_model.specs.DiagramOf.{element_of}
+use Rattle.plcx_first_model.specs.DiagramOf.{element_of}
 use Rattle.plcx_st.specs.Meant.{decl_meant}
 use Rattle.plcx_jump.proofs.declaring.wire_decls.Given as goal
 

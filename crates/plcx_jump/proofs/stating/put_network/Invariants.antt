@@ -1,7 +1,7 @@
 use Rattle.std.proofs.Common.{◌≡◌, ◌++◌, map, drop}
 use Rattle.plcx_meaning.specs.Templates.{elements_text}
-use Rattle.plcx_model.specs.DiagramOf.{element_of}
-use Rattle.plcx_model.specs.PlanOf.{elements_at}
+use Rattle.plcx_first_model.specs.DiagramOf.{element_of}
+use Rattle.plcx_first_model.specs.PlanOf.{elements_at}
 use Rattle.plcx_st.specs.Meant.{stmt_meant}
 use Rattle.plcx_jump.proofs.stating.put_network.Given as goal
 

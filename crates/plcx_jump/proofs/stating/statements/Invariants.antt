@@ -1,9 +1,9 @@
 use Rattle.std.proofs.Common.{◌≡◌, ◌++◌, map, drop}
 use Rattle.std.specs.List.{flat_map}
 use Rattle.plcx_meaning.specs.Templates.{elements_text}
-use Rattle.plcx_model.specs.DiagramOf.{element_of}
-use Rattle.plcx_model.specs.PlanOf.{elements_at, networks_of}
-use Rattle.plcx_model.specs.declared.plan.Network.{Network}
+use Rattle.plcx_first_model.specs.DiagramOf.{element_of}
+use Rattle.plcx_first_model.specs.PlanOf.{elements_at, networks_of}
+use Rattle.plcx_first_model.specs.declared.plan.Network.{Network}
 use Rattle.plcx_st.specs.Meant.{stmt_meant}
 use Rattle.plcx_jump.proofs.stating.statements.Given as goal
 
