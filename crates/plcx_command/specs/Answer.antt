@@ -1,7 +1,9 @@
 -- What is to be written: a whole output, or the line of a refusal.
 use Rattle.std.specs.Prelude.{ℕ, List, [], ◌∷◌, ◌++◌, codes}
+use Rattle.std.specs.Fmt.{decimal}
+use Rattle.plcx_command.specs.Verdict.{Place, AtByte, AtElement}
 use Rattle.plcx_command.specs.declared.status.Refused.{Refused}
-use Rattle.plcx_command.specs.declared.status.Refused.TheVariants.{Usage, ReadFault, NoMemory, NotBuilt}
+use Rattle.plcx_command.specs.declared.status.Refused.TheVariants.{Broken, Usage, ReadFault, NoMemory, NotBuilt}
 
 pub data Answer : Type 0 where
   output : List ℕ → Answer
@@ -9,6 +11,13 @@ pub data Answer : Type 0 where
 
 abbrev pub line : List ℕ → List ℕ
 line text = codes "plcx: " ++ (text ++ 10 ∷ [])
+
+-- what `check` writes for a file that is accepted
+abbrev pub ok_line : List ℕ
+ok_line = codes "ok" ++ 10 ∷ []
+
+abbrev pub ok_answer : Answer
+ok_answer = output ok_line
 
 abbrev pub usage_line : List ℕ
 usage_line = line (codes "usage: plcx ACTION FILE [EVENTS] [--program NAME] [--turns N] [--retain FILE]")
@@ -36,3 +45,14 @@ read_answer name = refusal ReadFault (read_line name)
 
 abbrev pub write_line : List ℕ
 write_line = line (codes "cannot write")
+
+-- where a rule is broken, as it is told
+abbrev pub place_words : Place → List ℕ
+place_words (AtByte at) = codes "byte " ++ decimal at
+place_words (AtElement pou local_id) = pou ++ (codes " " ++ decimal local_id)
+
+abbrev pub broken_line : ℕ → Place → List ℕ
+broken_line rule place = line (codes "rule " ++ (decimal rule ++ (codes " at " ++ place_words place)))
+
+abbrev pub broken_answer : ℕ → Place → Answer
+broken_answer rule place = refusal Broken (broken_line rule place)

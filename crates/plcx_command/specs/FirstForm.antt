@@ -1,5 +1,6 @@
 -- Which files have the form that is built by now, and which text each has.
 use Rattle.std.specs.Prelude.{◌≡◌, ◌≤◌, ℕ, List, [], ◌∷◌, Some}
+use Rattle.plcx_meaning.specs.Base.{Each}
 use Rattle.plcx_meaning.specs.Diagram as diagram
 use Rattle.plcx_meaning.specs.Templates.{unit_of}
 use Rattle.plcx_meaning.specs.Ready.{IsReady}
@@ -12,7 +13,10 @@ use Rattle.plcx_first_model.specs.declared.project.Element as model
 use Rattle.plcx_first_model.specs.Shape.{BodyIsFirst, IsFirstShape}
 use Rattle.plcx_first_model.specs.Networks.{AreNetworks}
 use Rattle.plcx_first_model.specs.DiagramOf.{diagram_of}
+use Rattle.plcx_first_model.specs.Sound.{IsSound}
+use Rattle.plcx_first_order.specs.Planned.{IsPlanned}
 use Rattle.plcx_first_profile.specs.ProjectAt.{project_at}
+use Rattle.plcx_command.specs.declared.compiling.Accepted.{Accepted}
 use Rattle.plcx_st.specs.declared.tree.Unit.{Unit}
 use Rattle.plcx_st.specs.Grammar.{limit}
 use Rattle.plcx_st.specs.Stands.{StandsFor}
@@ -54,3 +58,11 @@ pub record IsCompiled (bytes text : List ℕ) : Type 0 where
   pub tree : IsTreeOf bytes root
   pub stands : project_at root ≡ Some project
   pub text_of : IsTextOf project text
+
+-- What a file holds that is accepted: its tree's project, which has the first form, and the order of evaluation.
+pub record IsAccepted (bytes : List ℕ) (a : Accepted) : Type 0 where
+  pub root : Element
+  pub tree : IsTreeOf bytes root
+  pub stands : project_at root ≡ Some a.project
+  pub planned : IsPlanned a.project a.plan
+  pub sound : Each IsSound a.project.pous

@@ -1,18 +1,18 @@
 -- What a status says, one clause each.
-use Rattle.std.specs.Prelude.{◌≡◌, ◌≤◌, ◌<◌, ◌↔◌, ◌⊎◌, ℕ, List, length, Some, ⊤}
-use Rattle.std.specs.declared.option.Option.{Option}
+use Rattle.std.specs.Prelude.{◌≡◌, ◌≤◌, ◌<◌, ◌↔◌, ◌⊎◌, ℕ, List, length, Option, Some, None, ⊤}
 use Rattle.plcx_io.specs.Counts.{Rose}
-use Rattle.plcx_command.specs.Answer.{read_line, usage_line, memory_line, not_built_line, write_line, Answer, refusal, output}
-use Rattle.plcx_command.specs.Command.{Command, compile, not_built, usage}
+use Rattle.plcx_command.specs.Answer.{ok_line, read_line, usage_line, memory_line, not_built_line, write_line, Answer, refusal, output}
+use Rattle.plcx_words.specs.Command.{Command, check, compile, simulate, run, bench}
 use Rattle.plcx_command.specs.FirstForm.{HasFirstForm, IsCompiled}
 use Rattle.plcx_command.specs.Says.{limit}
 use Rattle.plcx_command.specs.Ends.{Change, Gets, GetsFront, Unchanged, MaySay}
 use Rattle.plcx_command.specs.declared.status.Status.{Status}
-use Rattle.plcx_command.specs.declared.status.Status.TheVariants.{Done, Usage, ReadFault, WriteFault, NoMemory, NotBuilt}
+use Rattle.plcx_command.specs.declared.status.Status.TheVariants.{Done, Broken, Usage, ReadFault, WriteFault, NoMemory, NotBuilt}
 
 -- a status that neither memory nor the outside made
 abbrev pub IsDefined : Status → Type 0
 IsDefined Done = ⊤
+IsDefined Broken = ⊤
 IsDefined Usage = ⊤
 IsDefined NotBuilt = ⊤
 IsDefined ReadFault = ⊥
@@ -20,39 +20,58 @@ IsDefined WriteFault = ⊥
 IsDefined NoMemory = ⊥
 
 -- The text of a file comes exactly where the file has the form that is built; then it is exactly what the output got, and it does what the diagram does.
-abbrev pub CompilesExactly : (List ℕ → Option (List ℕ)) → Command → Status → Change → Change → Type 0
-CompilesExactly told command status out err = (name bytes : List ℕ) → command ≡ compile name → told name ≡ Some bytes → length bytes ≤ limit → IsDefined status
+abbrev pub CompilesExactly : (List ℕ → Option (List ℕ)) → Option Command → Status → Change → Change → Type 0
+CompilesExactly told command status out err = (name bytes : List ℕ) → command ≡ Some (compile name) → told name ≡ Some bytes → length bytes ≤ limit → IsDefined status
     → ((status ≡ Done) ↔ HasFirstForm bytes) × (status ≡ Done → (text : List ℕ) × IsCompiled bytes text × Gets out text × Unchanged err)
 
+-- A file is accepted exactly where it has the form that is built; then the output got `ok`.
+abbrev pub ChecksExactly : (List ℕ → Option (List ℕ)) → Option Command → Status → Change → Change → Type 0
+ChecksExactly told command status out err = (name bytes : List ℕ) → command ≡ Some (check name) → told name ≡ Some bytes → length bytes ≤ limit → IsDefined status
+    → ((status ≡ Done) ↔ HasFirstForm bytes) × (status ≡ Done → Gets out ok_line × Unchanged err)
+
 -- the words are no command
-abbrev pub RefusesUsage : Command → Status → Change → Change → Type 0
-RefusesUsage command status out err = (IsDefined status → ((status ≡ Usage) ↔ (command ≡ usage))) × (status ≡ Usage → Gets err usage_line × Unchanged out)
+abbrev pub RefusesUsage : Option Command → Status → Change → Change → Type 0
+RefusesUsage command status out err = (IsDefined status → ((status ≡ Usage) ↔ (command ≡ None))) × (status ≡ Usage → Gets err usage_line × Unchanged out)
+
+-- the bytes of a file are too many, or have not the form that is built
+abbrev pub HasOtherForm : Option (List ℕ) → Type 0
+HasOtherForm told = (bytes : List ℕ) × (told ≡ Some bytes) × ((limit < length bytes) ⊎ (HasFirstForm bytes → ⊥))
 
 -- the words or the bytes name what is not built
-abbrev pub IsNotBuilt : (List ℕ → Option (List ℕ)) → Command → Type 0
-IsNotBuilt told (compile name) = (bytes : List ℕ) × (told name ≡ Some bytes) × ((limit < length bytes) ⊎ (HasFirstForm bytes → ⊥))
-IsNotBuilt told not_built = ⊤
-IsNotBuilt told usage = ⊥
+abbrev pub IsNotBuilt : (List ℕ → Option (List ℕ)) → Option Command → Type 0
+IsNotBuilt told (Some (check name)) = HasOtherForm (told name)
+IsNotBuilt told (Some (compile name)) = HasOtherForm (told name)
+IsNotBuilt told (Some (simulate r)) = ⊤
+IsNotBuilt told (Some (run r)) = ⊤
+IsNotBuilt told (Some (bench n)) = ⊤
+IsNotBuilt told None = ⊥
+
+-- the file that a command reads
+abbrev pub file_of : Option Command → Option (List ℕ)
+file_of (Some (check name)) = Some name
+file_of (Some (compile name)) = Some name
+file_of (Some (simulate r)) = None
+file_of (Some (run r)) = None
+file_of (Some (bench n)) = None
+file_of None = None
 
 -- the desk tells the file that the command reads
-abbrev pub IsTold : (List ℕ → Option (List ℕ)) → Command → Type 0
-IsTold told (compile name) = (bytes : List ℕ) × (told name ≡ Some bytes)
-IsTold told not_built = ⊤
-IsTold told usage = ⊤
+abbrev pub IsTold : (List ℕ → Option (List ℕ)) → Option Command → Type 0
+IsTold told command = (name : List ℕ) → file_of command ≡ Some name → (bytes : List ℕ) × (told name ≡ Some bytes)
 
-abbrev pub RefusesNotBuilt : (List ℕ → Option (List ℕ)) → Command → Status → Change → Change → Type 0
+abbrev pub RefusesNotBuilt : (List ℕ → Option (List ℕ)) → Option Command → Status → Change → Change → Type 0
 RefusesNotBuilt told command status out err = (IsTold told command → IsDefined status → ((status ≡ NotBuilt) ↔ IsNotBuilt told command)) × (status ≡ NotBuilt → Gets err not_built_line × Unchanged out)
 
 -- A fault of a read is that of the file which the command reads: its count rose, and its name is told.
-abbrev pub BlamesReads : (List ℕ → Type 0) → Command → Status → Change → Change → Type 0
-BlamesReads rose command status out err = status ≡ ReadFault → (name : List ℕ) × (command ≡ compile name) × rose name × Gets err (read_line name) × Unchanged out
+abbrev pub BlamesReads : (List ℕ → Type 0) → Option Command → Status → Change → Change → Type 0
+BlamesReads rose command status out err = status ≡ ReadFault → (name : List ℕ) × (file_of command ≡ Some name) × rose name × Gets err (read_line name) × Unchanged out
 
 abbrev pub IsRefusal : Answer → List ℕ → Type 0
 IsRefusal (output bytes) line = ⊥
 IsRefusal (refusal why text) line = text ≡ line
 
 -- A fault of a write is one of the output behind which no refusal stands, or one of the line of a refusal that stands.
-abbrev pub BlamesWrites : (List ℕ → Option (List ℕ)) → (List ℕ → Type 0) → Command → Status → Change → Change → Type 0
+abbrev pub BlamesWrites : (List ℕ → Option (List ℕ)) → (List ℕ → Type 0) → Option Command → Status → Change → Change → Type 0
 BlamesWrites told rose command status out err = status ≡ WriteFault → (a : Answer) × MaySay told rose command a × (
     ((bytes : List ℕ) × (a ≡ output bytes) × GetsFront out bytes × (Gets err write_line ⊎ GetsFront err write_line))
     ⊎ ((line : List ℕ) × IsRefusal a line × GetsFront err line × Unchanged out))
@@ -61,6 +80,6 @@ abbrev pub TellsMemory : Status → Change → Change → Type 0
 TellsMemory status out err = status ≡ NoMemory → Gets err memory_line × Unchanged out
 
 -- Where the file has the form, and no count of it and of no sink rose, the text comes, unless memory is refused.
-abbrev pub IsComplete : (List ℕ → Option (List ℕ)) → (List ℕ → Type 0) → Command → Status → Change → Change → Type 0
-IsComplete told rose command status out err = (name bytes : List ℕ) → command ≡ compile name → told name ≡ Some bytes → length bytes ≤ limit → HasFirstForm bytes
+abbrev pub IsComplete : (List ℕ → Option (List ℕ)) → (List ℕ → Type 0) → Option Command → Status → Change → Change → Type 0
+IsComplete told rose command status out err = (name bytes : List ℕ) → command ≡ Some (compile name) → told name ≡ Some bytes → length bytes ≤ limit → HasFirstForm bytes
     → (rose name → ⊥) → (Rose out.had out.has → ⊥) → (Rose err.had err.has → ⊥) → (status ≡ Done) ⊎ (status ≡ NoMemory)

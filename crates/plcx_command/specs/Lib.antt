@@ -1,10 +1,8 @@
 pub mod Answer
-pub mod Command
 pub mod Ends
 pub mod FirstForm
 pub mod Headline
 pub mod Refused
 pub mod ReplyOf
-pub mod SaidBy
 pub mod Says
 pub mod Verdict

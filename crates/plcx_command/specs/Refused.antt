@@ -7,6 +7,7 @@ use Rattle.plcx_command.specs.declared.status.Status.TheVariants as status
 
 abbrev pub number_of : Status → ℕ
 number_of status.Done = 0
+number_of status.Broken = 1
 number_of status.Usage = 2
 number_of status.ReadFault = 3
 number_of status.WriteFault = 4
@@ -14,6 +15,7 @@ number_of status.NoMemory = 5
 number_of status.NotBuilt = 9
 
 abbrev pub status_of : Refused → Status
+status_of refused.Broken = status.Broken
 status_of refused.Usage = status.Usage
 status_of refused.ReadFault = status.ReadFault
 status_of refused.NoMemory = status.NoMemory

@@ -1,11 +1,10 @@
 -- What each command answers, by what the desk tells of its file.
-use Rattle.std.specs.Prelude.{◌≡◌, ◌≤◌, ◌<◌, ℕ, List, length, IfSome}
-use Rattle.std.specs.declared.option.Option.{Option}
+use Rattle.std.specs.Prelude.{◌≡◌, ◌≤◌, ◌<◌, ℕ, List, Option, Some, None, length, IfSome}
 use Rattle.plcx_io.specs.Told.{Tells}
-use Rattle.plcx_command.specs.Answer.{Answer, output, usage_answer, not_built_answer, read_answer}
-use Rattle.plcx_command.specs.Command.{Command, compile, not_built, usage}
+use Rattle.plcx_words.specs.Command.{Command, check, compile, simulate, run, bench}
+use Rattle.plcx_command.specs.Answer.{Answer, output, ok_answer, usage_answer, not_built_answer, read_answer, broken_answer}
 use Rattle.plcx_command.specs.FirstForm.{IsCompiled}
-use Rattle.plcx_command.specs.Verdict.{IsVerdict, Accepted, NotBuilt}
+use Rattle.plcx_command.specs.Verdict.{Place, IsVerdict, Accepted, NotBuilt, Broken}
 
 -- the bytes that a file may have
 abbrev pub limit : ℕ
@@ -17,10 +16,11 @@ pub data AfterRead (told : Option (List ℕ)) (rose : Type 0) (name : List ℕ) 
   too_long : IfSome told (λ bytes. limit < length bytes) → a ≡ long → AfterRead told rose name long next a
   whole : (bytes : List ℕ) → length bytes ≤ limit → Tells told bytes → next bytes a → AfterRead told rose name long next a
 
--- What the verdict on bytes comes to: they are accepted, and what follows, or they are not built.
+-- What the verdict on bytes comes to: they are accepted, and what follows, or a rule is broken, or they are not built.
 pub data Judged (bytes : List ℕ) (next : Answer → Type 0) (a : Answer) : Type 0 where
   accepted : IsVerdict bytes Accepted → next a → Judged bytes next a
-  refused : IsVerdict bytes NotBuilt → a ≡ not_built_answer → Judged bytes next a
+  broken : (rule : ℕ) (place : Place) → IsVerdict bytes (Broken rule place) → a ≡ broken_answer rule place → Judged bytes next a
+  not_built : IsVerdict bytes NotBuilt → a ≡ not_built_answer → Judged bytes next a
 
 -- the answer is a text of the file
 pub record IsText (bytes : List ℕ) (a : Answer) : Type 0 where
@@ -28,11 +28,25 @@ pub record IsText (bytes : List ℕ) (a : Answer) : Type 0 where
   pub compiled : IsCompiled bytes text
   pub answer : a ≡ output text
 
+-- the answer to a file that is only judged
+abbrev pub IsAccepting : Answer → Type 0
+IsAccepting a = a ≡ ok_answer
+
+abbrev pub checked : List ℕ → Answer → Type 0
+checked bytes a = Judged bytes IsAccepting a
+
 abbrev pub compiled : List ℕ → Answer → Type 0
 compiled bytes a = Judged bytes (IsText bytes) a
 
 -- what a command answers, where the desk tells these files and these names' counts rose
-abbrev pub Says : (List ℕ → Option (List ℕ)) → (List ℕ → Type 0) → Command → Answer → Type 0
-Says told rose (compile name) a = AfterRead (told name) (rose name) name not_built_answer compiled a
-Says told rose not_built a = a ≡ not_built_answer
-Says told rose usage a = a ≡ usage_answer
+abbrev pub SaysTo : (List ℕ → Option (List ℕ)) → (List ℕ → Type 0) → Command → Answer → Type 0
+SaysTo told rose (check name) a = AfterRead (told name) (rose name) name not_built_answer checked a
+SaysTo told rose (compile name) a = AfterRead (told name) (rose name) name not_built_answer compiled a
+SaysTo told rose (simulate r) a = a ≡ not_built_answer
+SaysTo told rose (run r) a = a ≡ not_built_answer
+SaysTo told rose (bench n) a = a ≡ not_built_answer
+
+-- words that ask for nothing are a faulty command line
+abbrev pub Says : (List ℕ → Option (List ℕ)) → (List ℕ → Type 0) → Option Command → Answer → Type 0
+Says told rose None a = a ≡ usage_answer
+Says told rose (Some command) a = SaysTo told rose command a

@@ -1,17 +1,18 @@
 //! What is to be written, before anything is.
 ghost use Rattle.std.specs.Prelude.{◌≡◌, IfOk};
 ghost use Rattle.plcx_io.specs.Counts.{Rose};
+ghost use Rattle.plcx_words.specs.Command as words;
+ghost use Rattle.plcx_words.specs.Says.{said_by};
 ghost use Rattle.plcx_command.specs.Answer.{usage_answer, not_built_answer, read_answer};
-ghost use Rattle.plcx_command.specs.Says.{Says, AfterRead, compiled};
-ghost use Rattle.plcx_command.specs.SaidBy.{said_by};
+ghost use Rattle.plcx_command.specs.Says.{Says, SaysTo, AfterRead, checked, compiled};
 ghost use Rattle.plcx_command.specs.ReplyOf.{answer_of};
 
-use crate::command::Command;
-use crate::compiling::compile_bytes;
+use crate::compiling::{accept, text_of};
 use crate::reply::Reply;
 use crate::status::Refused;
 use plcx_io::{Desk, LoadError, load};
 use plcx_types::NoMemory;
+use plcx_words::{Command, Words, WordsError, command_of};
 use std::alloc::Global;
 
 /// The bytes that a file may have.
@@ -40,13 +41,37 @@ fn read_fault(alloc: Global, name: &str) -> Result<Reply, NoMemory>
     Ok(Reply::Refusal(Refused::ReadFault, line))
 }
 
-/// What a file gives that was read whole.
+/// What a file gives that is only judged.
+fn checked(alloc: Global, bytes: &[u8]) -> Result<Reply, NoMemory>
+    ensures { IfOk result (λ reply. checked bytes.now (answer_of reply)) }
+{
+    match accept(alloc, bytes)? {
+        Some(_) => Ok(Reply::Output(b"ok\n".to_vec(alloc)?)),
+        None => not_built(alloc),
+    }
+}
+
+/// What a file gives that is compiled.
 fn compiled(alloc: Global, bytes: &[u8]) -> Result<Reply, NoMemory>
     ensures { IfOk result (λ reply. compiled bytes.now (answer_of reply)) }
 {
-    match compile_bytes(alloc, bytes)? {
-        Some(text) => Ok(Reply::Output(text)),
+    match accept(alloc, bytes)? {
+        Some(accepted) => Ok(Reply::Output(text_of(alloc, &accepted)?)),
         None => not_built(alloc),
+    }
+}
+
+/// Reads the file and judges it.
+fn check_file<D: Desk>(alloc: Global, desk: &mut D, name: &str) -> Result<Reply, NoMemory>
+    ensures { IfOk result (λ reply. AfterRead (D.file desk.old name.now)
+        (Rose (D.faults desk.old name.now) (D.faults desk.new name.now))
+        name.now not_built_answer checked (answer_of reply)) }
+{
+    match load(alloc, desk, name, LIMIT) {
+        Ok(bytes) => checked(alloc, &bytes),
+        Err(LoadError::Read) => read_fault(alloc, name),
+        Err(LoadError::TooLong { limit: _ }) => not_built(alloc),
+        Err(LoadError::NoMemory) => Err(NoMemory),
     }
 }
 
@@ -65,13 +90,25 @@ fn compile_file<D: Desk>(alloc: Global, desk: &mut D, name: &str) -> Result<Repl
 }
 
 /// What a command answers.
-pub fn decide<D: Desk>(alloc: Global, command: Command<'_>, desk: &mut D) -> Result<Reply, NoMemory>
-    ensures { IfOk result (λ reply. Says (D.file desk.old)
+fn obey<D: Desk>(alloc: Global, command: Command<'_>, desk: &mut D) -> Result<Reply, NoMemory>
+    ensures { IfOk result (λ reply. SaysTo (D.file desk.old)
         (λ name. Rose (D.faults desk.old name) (D.faults desk.new name)) (said_by command.entry) (answer_of reply)) }
 {
     match command {
+        Command::Check(name) => check_file(alloc, desk, name),
         Command::Compile(name) => compile_file(alloc, desk, name),
-        Command::NotBuilt => not_built(alloc),
-        Command::Usage => usage(alloc),
+        Command::Simulate(_) | Command::Run(_) | Command::Bench(_) => not_built(alloc),
+    }
+}
+
+/// What the words answer. Where they are no command, the desk is as it was.
+pub fn decide<D: Desk>(alloc: Global, words: &Words, desk: &mut D) -> Result<Reply, NoMemory>
+    ensures { IfOk result (λ reply. Says (D.file desk.old)
+        (λ name. Rose (D.faults desk.old name) (D.faults desk.new name)) (words.command_of words.now) (answer_of reply)) }
+{
+    match command_of(alloc, words) {
+        Ok(command) => obey(alloc, command, desk),
+        Err(WordsError::Usage) => usage(alloc),
+        Err(WordsError::NoMemory) => Err(NoMemory),
     }
 }

@@ -4,7 +4,6 @@
 //! when and what each sink got, and that the text of a diagram, read back, does what the diagram does.
 #![tactic(auto)]
 
-mod command;
 mod compiling;
 mod deciding;
 mod finishing;
@@ -12,9 +11,8 @@ mod law;
 mod reply;
 mod status;
 mod top;
-mod words;
 
 pub use law::one_text;
+pub use plcx_words::Words;
 pub use status::Status;
 pub use top::plcx;
-pub use words::Words;

@@ -5,6 +5,7 @@ ghost use Rattle.plcx_command.specs.Refused.{status_of};
 #[derive(Clone, Copy, Debug, PartialEq, Eq)]
 pub enum Status {
     Done,
+    Broken,
     Usage,
     ReadFault,
     WriteFault,
@@ -19,6 +20,7 @@ impl Status {
     {
         match self {
             Status::Done => 0,
+            Status::Broken => 1,
             Status::Usage => 2,
             Status::ReadFault => 3,
             Status::WriteFault => 4,
@@ -33,6 +35,7 @@ ghost use Rattle.plcx_command.specs.Refused.{number_of};
 /// Why nothing is written to the output.
 #[derive(Clone, Copy, Debug, PartialEq, Eq)]
 pub enum Refused {
+    Broken,
     Usage,
     ReadFault,
     NoMemory,
@@ -45,6 +48,7 @@ impl Refused {
         ensures { result ≡ status_of self }
     {
         match self {
+            Refused::Broken => Status::Broken,
             Refused::Usage => Status::Usage,
             Refused::ReadFault => Status::ReadFault,
             Refused::NoMemory => Status::NoMemory,

@@ -1,16 +1,15 @@
 //! The top call.
 ghost use Rattle.plcx_io.specs.Counts.{Rose};
-ghost use Rattle.plcx_command.specs.Command.{command_of};
+ghost use Rattle.plcx_words.specs.Command.{command_of};
 ghost use Rattle.plcx_command.specs.Ends.{Ends, change};
-ghost use Rattle.plcx_command.specs.Headline.{CompilesExactly, RefusesUsage, RefusesNotBuilt, BlamesReads, BlamesWrites, TellsMemory, IsComplete};
+ghost use Rattle.plcx_command.specs.Headline.{ChecksExactly, CompilesExactly, RefusesUsage, RefusesNotBuilt, BlamesReads, BlamesWrites, TellsMemory, IsComplete};
 
-use crate::command::command_of;
 use crate::deciding::decide;
 use crate::finishing::{put, refuse};
 use crate::reply::Reply;
 use crate::status::{Refused, Status};
-use crate::words::Words;
 use plcx_io::{Desk, Sink};
+use plcx_words::Words;
 use std::alloc::Global;
 
 fn run<D: Desk, O: Sink, E: Sink>(
@@ -25,7 +24,7 @@ fn run<D: Desk, O: Sink, E: Sink>(
         (change (O.written out.old) (O.written out.new) (O.faults out.old) (O.faults out.new))
         (change (E.written err.old) (E.written err.new) (E.faults err.old) (E.faults err.new)) }
 {
-    match decide(alloc, command_of(words), desk) {
+    match decide(alloc, words, desk) {
         Ok(Reply::Output(bytes)) => put(&bytes, out, err),
         Ok(Reply::Refusal(why, line)) => refuse(why, &line, out, err),
         Err(_) => refuse(Refused::NoMemory, b"plcx: no memory\n", out, err),
@@ -46,6 +45,10 @@ pub fn plcx<D: Desk, O: Sink, E: Sink>(
         (change (E.written err.old) (E.written err.new) (E.faults err.old) (E.faults err.new)) }
 
     ensures compiles { CompilesExactly (D.file desk.old) (command_of words.now) result
+        (change (O.written out.old) (O.written out.new) (O.faults out.old) (O.faults out.new))
+        (change (E.written err.old) (E.written err.new) (E.faults err.old) (E.faults err.new)) }
+
+    ensures checks { ChecksExactly (D.file desk.old) (command_of words.now) result
         (change (O.written out.old) (O.written out.new) (O.faults out.old) (O.faults out.new))
         (change (E.written err.old) (E.written err.new) (E.faults err.old) (E.faults err.new)) }
 

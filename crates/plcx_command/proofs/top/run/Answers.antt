@@ -6,7 +6,7 @@ pub returns-in-Ok-Output : goal.returns-in-Ok-Output
 returns-in-Ok-Output g c = record {
   ends = record {
     answer = output c.in-Ok-Output.bytes.items;
-    said = inl (rw (c.in-Ok-Output.field-0-is, c.command_of.ensures) at c.in-Ok-Output.ensures);
+    said = inl (rw c.in-Ok-Output.field-0-is at c.in-Ok-Output.ensures);
     written = rw c.deref.ensures.value at c.put.ensures;
   };
 }
@@ -15,7 +15,7 @@ pub returns-in-Ok-Refusal : goal.returns-in-Ok-Refusal
 returns-in-Ok-Refusal g c = record {
   ends = record {
     answer = refusal c.in-Ok-Refusal.why c.in-Ok-Refusal.line.items;
-    said = inl (rw (c.in-Ok-Refusal.field-0-is, c.command_of.ensures) at c.in-Ok-Refusal.ensures);
+    said = inl (rw c.in-Ok-Refusal.field-0-is at c.in-Ok-Refusal.ensures);
     written = rw c.deref-in-Ok-Refusal.ensures.value at c.refuse.ensures;
   };
 }

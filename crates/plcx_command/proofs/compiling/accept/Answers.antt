@@ -1,6 +1,6 @@
 use Rattle.std.proofs.Common.{ap, Err}
 use Rattle.plcx_command.proofs.Composed.{no_project, no_shape, bodies_are_small}
-use Rattle.plcx_command.proofs.compiling.compile_bytes.Goals as goal
+use Rattle.plcx_command.proofs.compiling.accept.Goals as goal
 
 pub returns-in-Err-NotBuilt-project_of : goal.returns-in-Err-NotBuilt-project_of
 returns-in-Err-NotBuilt-project_of c =
