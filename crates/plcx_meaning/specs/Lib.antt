@@ -6,6 +6,7 @@ pub mod Run
 pub mod Functions
 pub mod Diagram
 pub mod Evaluate
+pub mod Watch
 pub mod Execute
 pub mod Templates
 pub mod Address
