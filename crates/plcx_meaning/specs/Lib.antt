@@ -21,6 +21,7 @@ pub mod ExampleLoops
 pub mod ExampleBlocks
 pub mod ExampleInOuts
 pub mod ExamplePins
+pub mod ExampleWatch
 pub mod Typed
 pub mod Ready
 pub mod ReadyExamples

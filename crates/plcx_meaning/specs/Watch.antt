@@ -20,3 +20,13 @@ heard_at project p turns (Again r) s = []
 abbrev pub heard_over : Project → Pou → (turns : ℕ) → List Event → Side Diagram → List Heard
 heard_over project p turns [] s = []
 heard_over project p turns (e ∷ es) s = heard_at project p turns e s ++ heard_over project p turns es (after (diagram_machine project p) turns e s)
+
+-- a state of which more was heard before
+abbrev pub earlier : List Heard → Diagram → Diagram
+earlier hs d = record d { heard = hs ++ d.heard }
+
+-- and a piece of a scan
+abbrev pub heard_earlier : {L : Type 0} → List Heard → Outcome Diagram L → Outcome Diagram L
+heard_earlier hs (Ended d l) = Ended (earlier hs d) l
+heard_earlier hs (Stopped s d) = Stopped s (earlier hs d)
+heard_earlier hs Stuck = Stuck
