@@ -61,7 +61,14 @@ loop_statements =
 abbrev pub loop_blocks : List Block
 loop_blocks =
     listed tree.Local (variable (codes "X") ty.Int ∷ [])
-    ∷ listed tree.Temp (variable (codes "PLCX_W2") ty.Int ∷ variable (codes "PLCX_W4_OUT") ty.Int ∷ variable (codes "PLCX_W6") ty.Int ∷ variable (codes "PLCX_W8_OUT") ty.Bool ∷ variable (codes "PLCX_W9") ty.Bool ∷ variable (codes "PLCX_N") ty.Dint ∷ [])
+    ∷ listed tree.Temp
+    (variable (codes "PLCX_W2") ty.Int
+    ∷ variable (codes "PLCX_W4_OUT") ty.Int
+    ∷ variable (codes "PLCX_W6") ty.Int
+    ∷ variable (codes "PLCX_W8_OUT") ty.Bool
+    ∷ variable (codes "PLCX_W9") ty.Bool
+    ∷ variable (codes "PLCX_N") ty.Dint
+    ∷ [])
     ∷ []
 
 abbrev pub one_scan : List Event

@@ -9,21 +9,17 @@ pub mod Diagram
 pub mod Evaluate
 pub mod Watch
 pub mod Execute
-
 -- The text of a diagram; what a project has to fit; and when two sides are the same.
 pub mod Templates
 pub mod Address
 pub mod Fits
 pub mod Same
 pub mod Traces
-
 -- Which texts are ready.
 pub mod Typed
 pub mod Ready
-
 -- What is said of the definitions alone.
 pub mod Turns
-
 -- Worked examples.
 pub mod Pieces
 pub mod ExampleRungs

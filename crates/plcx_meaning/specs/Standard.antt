@@ -41,28 +41,80 @@ abbrev pub Leaves : Type 0
 Leaves = List ℕ → ℤ
 
 abbrev pub on_delay : Leaves → OnDelay
-on_delay at = record { input = is_true (at (codes "in")); preset = at (codes "pt"); output = is_true (at (codes "q")); elapsed = at (codes "et"); running = is_true (at (codes "run")); start = at (codes "start") }
+on_delay at = record {
+  input = is_true (at (codes "in"));
+  preset = at (codes "pt");
+  output = is_true (at (codes "q"));
+  elapsed = at (codes "et");
+  running = is_true (at (codes "run"));
+  start = at (codes "start");
+}
 
 abbrev pub timer : Leaves → Timer
-timer at = record { input = is_true (at (codes "in")); preset = at (codes "pt"); output = is_true (at (codes "q")); elapsed = at (codes "et"); memory = is_true (at (codes "m")); running = is_true (at (codes "run")); start = at (codes "start") }
+timer at = record {
+  input = is_true (at (codes "in"));
+  preset = at (codes "pt");
+  output = is_true (at (codes "q"));
+  elapsed = at (codes "et");
+  memory = is_true (at (codes "m"));
+  running = is_true (at (codes "run"));
+  start = at (codes "start");
+}
 
 abbrev pub up_counter : Leaves → UpCounter
-up_counter at = record { up = is_true (at (codes "cu")); reset = is_true (at (codes "r")); preset = at (codes "pv"); output = is_true (at (codes "q")); count = at (codes "cv"); memory = is_true (at (codes "m")) }
+up_counter at = record {
+  up = is_true (at (codes "cu"));
+  reset = is_true (at (codes "r"));
+  preset = at (codes "pv");
+  output = is_true (at (codes "q"));
+  count = at (codes "cv");
+  memory = is_true (at (codes "m"));
+}
 
 abbrev pub down_counter : Leaves → DownCounter
-down_counter at = record { down = is_true (at (codes "cd")); load = is_true (at (codes "ld")); preset = at (codes "pv"); output = is_true (at (codes "q")); count = at (codes "cv"); memory = is_true (at (codes "m")) }
+down_counter at = record {
+  down = is_true (at (codes "cd"));
+  load = is_true (at (codes "ld"));
+  preset = at (codes "pv");
+  output = is_true (at (codes "q"));
+  count = at (codes "cv");
+  memory = is_true (at (codes "m"));
+}
 
 abbrev pub up_down_counter : Leaves → UpDownCounter
-up_down_counter at = record { up = is_true (at (codes "cu")); down = is_true (at (codes "cd")); reset = is_true (at (codes "r")); load = is_true (at (codes "ld")); preset = at (codes "pv"); output_up = is_true (at (codes "qu")); output_down = is_true (at (codes "qd")); count = at (codes "cv"); memory_up = is_true (at (codes "mu")); memory_down = is_true (at (codes "md")) }
+up_down_counter at = record {
+  up = is_true (at (codes "cu"));
+  down = is_true (at (codes "cd"));
+  reset = is_true (at (codes "r"));
+  load = is_true (at (codes "ld"));
+  preset = at (codes "pv");
+  output_up = is_true (at (codes "qu"));
+  output_down = is_true (at (codes "qd"));
+  count = at (codes "cv");
+  memory_up = is_true (at (codes "mu"));
+  memory_down = is_true (at (codes "md"));
+}
 
 abbrev pub set_first : Leaves → Latch
-set_first at = record { set = is_true (at (codes "s1")); reset = is_true (at (codes "r")); output = is_true (at (codes "q1")) }
+set_first at = record {
+  set = is_true (at (codes "s1"));
+  reset = is_true (at (codes "r"));
+  output = is_true (at (codes "q1"));
+}
 
 abbrev pub reset_first : Leaves → Latch
-reset_first at = record { set = is_true (at (codes "s")); reset = is_true (at (codes "r1")); output = is_true (at (codes "q1")) }
+reset_first at = record {
+  set = is_true (at (codes "s"));
+  reset = is_true (at (codes "r1"));
+  output = is_true (at (codes "q1"));
+}
 
 abbrev pub edge : Leaves → Edge
-edge at = record { clock = is_true (at (codes "clk")); output = is_true (at (codes "q")); memory = is_true (at (codes "m")) }
+edge at = record {
+  clock = is_true (at (codes "clk"));
+  output = is_true (at (codes "q"));
+  memory = is_true (at (codes "m"));
+}
 
 abbrev pub state_of : StdKind → Leaves → StdState
 state_of kind.Ton at = state.Ton (on_delay at)
