@@ -2,7 +2,7 @@
 use Rattle.std.proofs.Common.{◌≡◌, ℕ, ℤ, Bool, true, false, true≢false, List, [], ◌∷◌, Some, filter, refl, sym, ap, ap₂, ◌∙◌, if◌then◌else◌}
 use Rattle.plcx_meaning.specs.Base.{Path, is_declared, Each}
 use Rattle.plcx_meaning.specs.Layout.{Leaf, declared_leaves, IsOutside, IsRetainedState}
-use Rattle.plcx_meaning.specs.Run.{Event, Machine, Side, after, begin_side, AreEvents}
+use Rattle.plcx_meaning.specs.Run.{Event, Machine, Side, after, begin_side, CanFollow}
 use Rattle.plcx_meaning.specs.Same.{SameValues, SameRuns}
 use Rattle.plcx_meaning.specs.Diagram.{Pou, Project, program_named}
 use Rattle.plcx_meaning.specs.Evaluate.{diagram_machine, scope_of}
@@ -75,7 +75,7 @@ module _ {G H : Type 0} (m : Machine G) (k : Machine H) where
         ends_same (e ∷ es) s t same runs = ends_same es (after m turns e s) (after k turns e t) runs.2 runs.3
 
 pub all_traced : (project : Project) → ProjectFits project → (name : List ℕ) (p : Pou) → program_named name project ≡ Some p
-    → (kept : Path → ℤ) → IsRetainedState (diagram_machine project p).layout kept → (es : List Event) → AreEvents (diagram_machine project p).layout 0 es → (turns : ℕ)
+    → (kept : Path → ℤ) → IsRetainedState (diagram_machine project p).layout kept → (es : List Event) → CanFollow (diagram_machine project p) (begin_side (diagram_machine project p) kept) es → (turns : ℕ)
     → trace_from (diagram_machine project p) turns es (begin_side (diagram_machine project p) kept)
     ≡ trace_from (text_machine (unit_of project) (pou_text p)) turns es (begin_side (text_machine (unit_of project) (pou_text p)) kept)
 all_traced project fits name p named kept retained es good turns =

@@ -2,9 +2,9 @@
 ghost use Rattle.std.specs.Prelude.{◌≡◌, ◌+◌, ℕ, ℤ, Bool, List, Some, true, slice_get, if◌then◌else◌};
 ghost use Rattle.plcx_meaning.specs.Base.{Path, Site, Outcome, Ended, then_do, spend, Each};
 ghost use Rattle.plcx_meaning.specs.Tree.{Expression, Statement, While, Statements, PouText};
-ghost use Rattle.plcx_meaning.specs.Layout.{Variable, Scope, layout, IsOutside, IsRetainedState};
+ghost use Rattle.plcx_meaning.specs.Layout.{Variable, Scope, layout, IsSpelled, IsOutside, IsRetainedState};
 ghost use Rattle.plcx_meaning.specs.Traces.{trace_from};
-ghost use Rattle.plcx_meaning.specs.Run.{Input, Event, Scan, Machine, Side, after, begin_side, AreEvents};
+ghost use Rattle.plcx_meaning.specs.Run.{Input, Event, Scan, Machine, Side, after, begin_side, CanFollow};
 ghost use Rattle.plcx_meaning.specs.Diagram.{Element, Pou, Project, program_named};
 ghost use Rattle.plcx_meaning.specs.Evaluate.{Diagram, no_wires, elements_do, successor, at_network, jumping, Setting, with_standard, blocks_do, program_does, diagram_machine};
 ghost use Rattle.plcx_meaning.specs.Execute.{Run, Frame, Here, with_truth, value_of, run_statement, run_statements, run_list, blocks_run, program_runs, text_machine};
@@ -19,14 +19,14 @@ ghost use Rattle.plcx_meaning.specs.Turns.{LeavesAtMost};
 /// So both have the same trace: what is told and shown after each event, and what is retained at the end.
 pub fn same_behavior()
     ensures behaves { (project : Project) → ProjectFits project → Behaves project (unit_of project) }
-    ensures agrees { (project : Project) → ProjectFits project → (name : List ℕ) (p : Pou) → program_named name project ≡ Some p → (kept : Path → ℤ) (es : List Event) → AreEvents (diagram_machine project p).layout 0 es → (turns : ℕ) → AgreeThroughout (diagram_machine project p) (text_machine (unit_of project) (pou_text p)) turns es (begin_side (diagram_machine project p) kept) (begin_side (text_machine (unit_of project) (pou_text p)) kept) }
-    ensures traces { (project : Project) → ProjectFits project → (name : List ℕ) (p : Pou) → program_named name project ≡ Some p → (kept : Path → ℤ) → IsRetainedState (diagram_machine project p).layout kept → (es : List Event) → AreEvents (diagram_machine project p).layout 0 es → (turns : ℕ) → trace_from (diagram_machine project p) turns es (begin_side (diagram_machine project p) kept) ≡ trace_from (text_machine (unit_of project) (pou_text p)) turns es (begin_side (text_machine (unit_of project) (pou_text p)) kept) }
+    ensures agrees { (project : Project) → ProjectFits project → (name : List ℕ) (p : Pou) → program_named name project ≡ Some p → (kept : Path → ℤ) (es : List Event) → CanFollow (diagram_machine project p) (begin_side (diagram_machine project p) kept) es → (turns : ℕ) → AgreeThroughout (diagram_machine project p) (text_machine (unit_of project) (pou_text p)) turns es (begin_side (diagram_machine project p) kept) (begin_side (text_machine (unit_of project) (pou_text p)) kept) }
+    ensures traces { (project : Project) → ProjectFits project → (name : List ℕ) (p : Pou) → program_named name project ≡ Some p → (kept : Path → ℤ) → IsRetainedState (diagram_machine project p).layout kept → (es : List Event) → CanFollow (diagram_machine project p) (begin_side (diagram_machine project p) kept) es → (turns : ℕ) → trace_from (diagram_machine project p) turns es (begin_side (diagram_machine project p) kept) ≡ trace_from (text_machine (unit_of project) (pou_text p)) turns es (begin_side (text_machine (unit_of project) (pou_text p)) kept) }
 {}
 
-/// A scan of a side that is halted changes nothing.
+/// A scan of a side that is halted changes nothing but the time of the last scan.
 pub fn halting()
-    ensures diagram { (m : Machine Diagram) (turns time : ℕ) (inputs : List Input) (s : Side Diagram) → s.halted ≡ true → after m turns (Scan time inputs) s ≡ s }
-    ensures text { (m : Machine Run) (turns time : ℕ) (inputs : List Input) (s : Side Run) → s.halted ≡ true → after m turns (Scan time inputs) s ≡ s }
+    ensures diagram { (m : Machine Diagram) (turns time : ℕ) (inputs : List Input) (s : Side Diagram) → s.halted ≡ true → after m turns (Scan time inputs) s ≡ record s { last = time } }
+    ensures text { (m : Machine Run) (turns time : ℕ) (inputs : List Input) (s : Side Run) → s.halted ≡ true → after m turns (Scan time inputs) s ≡ record s { last = time } }
 {}
 
 /// Neither side makes more turns, however a piece of a scan comes out.
@@ -45,4 +45,9 @@ pub fn loops()
 /// Whoever sets or shows leaves meets declared ones alone, and so no variable that the compiler keeps for itself.
 pub fn outside_leaves()
     ensures { (c : Scope) → Each IsOutside (layout c) }
+{}
+
+/// Each leaf is spelled as its names are declared: without case that is its path.
+pub fn spelled_leaves()
+    ensures { (c : Scope) → Each IsSpelled (layout c) }
 {}
