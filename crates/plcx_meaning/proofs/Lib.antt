@@ -22,6 +22,7 @@ pub mod Units
 pub mod Nesting
 pub mod Layouts
 pub mod Declared
+pub mod Times
 pub mod Events
 pub mod Traced
 pub mod Turns

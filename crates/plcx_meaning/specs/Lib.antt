@@ -20,6 +20,7 @@ pub mod ExampleLoops
 pub mod ExampleBlocks
 pub mod ExampleInOuts
 pub mod ExamplePins
+pub mod ExampleStarts
 pub mod Typed
 pub mod Ready
 pub mod ReadyExamples

@@ -4,7 +4,7 @@ ghost use Rattle.plcx_meaning.specs.Base.{Path, Site, Outcome, Ended, then_do, s
 ghost use Rattle.plcx_meaning.specs.Tree.{Expression, Statement, While, Statements, PouText};
 ghost use Rattle.plcx_meaning.specs.Layout.{Variable, Scope, layout, IsSpelled, IsOutside, IsRetainedState};
 ghost use Rattle.plcx_meaning.specs.Traces.{trace_from};
-ghost use Rattle.plcx_meaning.specs.Run.{Input, Event, Scan, Machine, Side, after, begin_side, CanFollow};
+ghost use Rattle.plcx_meaning.specs.Run.{Input, Event, Scan, Machine, Side, after, last_after, begin_side, CanFollow};
 ghost use Rattle.plcx_meaning.specs.Diagram.{Element, Pou, Project, program_named};
 ghost use Rattle.plcx_meaning.specs.Evaluate.{Diagram, no_wires, elements_do, successor, at_network, jumping, Setting, with_standard, blocks_do, program_does, diagram_machine};
 ghost use Rattle.plcx_meaning.specs.Execute.{Run, Frame, Here, with_truth, value_of, run_statement, run_statements, run_list, blocks_run, program_runs, text_machine};
@@ -27,6 +27,12 @@ pub fn same_behavior()
 pub fn halting()
     ensures diagram { (m : Machine Diagram) (turns time : ℕ) (inputs : List Input) (s : Side Diagram) → s.halted ≡ true → after m turns (Scan time inputs) s ≡ record s { last = time } }
     ensures text { (m : Machine Run) (turns time : ℕ) (inputs : List Input) (s : Side Run) → s.halted ≡ true → after m turns (Scan time inputs) s ≡ record s { last = time } }
+{}
+
+/// The time of the last scan is set by each scan, also of a side that is halted, and kept by restarts.
+pub fn times_of_scans()
+    ensures diagram { (m : Machine Diagram) (turns : ℕ) (e : Event) (s : Side Diagram) → (after m turns e s).last ≡ last_after s.last e }
+    ensures text { (m : Machine Run) (turns : ℕ) (e : Event) (s : Side Run) → (after m turns e s).last ≡ last_after s.last e }
 {}
 
 /// Neither side makes more turns, however a piece of a scan comes out.
