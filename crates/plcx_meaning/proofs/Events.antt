@@ -1,5 +1,5 @@
 -- Lists of scans and restarts: the text of a project does what the project does.
-use Rattle.std.proofs.Common.{◌≡◌, ◌≢◌, ℕ, zero, suc, ℤ, Bool, true, false, List, Some, [], ◌∷◌, refl, sym, ap, ap₂, ◌∙◌, subst, if◌then◌else◌}
+use Rattle.std.proofs.Common.{◌≡◌, ◌≢◌, ℕ, zero, suc, ℤ, Bool, true, false, ◌&&◌, List, Some, [], ◌∷◌, refl, sym, ap, ap₂, ◌∙◌, subst, if◌then◌else◌}
 use Rattle.std.specs.Prelude.{not}
 use Rattle.std.specs.List.{Contains}
 use Rattle.std.specs.Option.{option_map}
@@ -9,14 +9,14 @@ use Rattle.plcx_types.specs.Name.{folded}
 use Rattle.plcx_types.specs.Reserved.{is_own}
 use Rattle.plcx_meaning.specs.Base.{Path, is_declared, Memory, Outcome, Ended, Stopped, Stuck, Each}
 use Rattle.plcx_meaning.specs.Tree.{Mark}
-use Rattle.plcx_meaning.specs.Layout.{Variable, Meaning, Elementary, Composed, meaning, Scope, is_retained, initial_at, Spelling, path_of, Leaf, is_outside, is_constant, leaf_of, is_kept, variable_leaves, leaves, layout, IsSpelled, IsOutside, Restart, Warm, Cold, restarted}
+use Rattle.plcx_meaning.specs.Layout.{Variable, Meaning, Elementary, Composed, meaning, Scope, is_retained, initial_at, Spelling, path_of, Leaf, is_outside, is_constant, leaf_of, is_kept, variable_leaves, leaves, layout, initial_in, IsSpelled, IsOutside, Restart, Warm, Cold, restarted}
 use Rattle.plcx_meaning.specs.Run.{Input, Event, Scan, Again, put_inputs, Halted, NoStep, TheStop, Side, told_of, side_after, begin_side, IsInput, AreEvents, CanFollow}
 use Rattle.plcx_meaning.specs.Diagram.{Pou, Project, program_named}
 use Rattle.plcx_meaning.specs.Evaluate.{Diagram, scope_of, restarted_memories, diagram_machine}
 use Rattle.plcx_meaning.specs.Execute.{Run, Here, Invoked, text_machine}
 use Rattle.plcx_meaning.specs.Execute as text
 use Rattle.plcx_meaning.specs.Templates.{memory_name, pou_text, unit_of}
-use Rattle.plcx_meaning.specs.Same.{SameRuns, IsSame, Behaves, Agree, AgreeThroughout}
+use Rattle.plcx_meaning.specs.Same.{SameValues, SameRuns, IsSame, Behaves, Agree, AgreeThroughout}
 use Rattle.plcx_meaning.specs.Fits.{PouFits, ProjectFits}
 use Rattle.plcx_meaning.proofs.Alike.{Alike, Nothing}
 use Rattle.plcx_meaning.proofs.Lists.{each_at, each_from, each_weaker, each_flat_map}
@@ -27,6 +27,7 @@ use Rattle.plcx_meaning.proofs.Nesting.{program_alike}
 use Rattle.plcx_meaning.proofs.Units.{program_text, program_there}
 use Rattle.plcx_meaning.proofs.Layouts.{Extends, own_initial, own_retained, layouts_same, begun_same, begun_own, restarted_same}
 use Rattle.plcx_meaning.proofs.Declared.{pou_extends, worlds_extend}
+use Rattle.plcx_meaning.proofs.Starts.{initial_alike}
 
 -- what is settable or shown is declared
 outside_declared : (p : Path) → is_outside p ≡ true → is_declared p ≡ true
@@ -109,11 +110,13 @@ module _ (project : Project) (fits : ProjectFits project) (p : Pou) (there : Con
   owns : Extends c.own e.own
   owns = pou_extends project p (each_at (PouFits project) project p fits.pous there)
 
-  begin_agrees : (kept : Path → ℤ) → SidesAgree (begin_side (diagram_machine project p) kept) (begin_side (text_machine (unit_of project) (pou_text p)) kept)
-  begin_agrees kept = record {
+  -- two retained states that are the same on declared paths
+  begin_agrees : (kept other : Path → ℤ) → ((q : Path) → is_declared q ≡ true → kept q ≡ other q)
+      → SidesAgree (begin_side (diagram_machine project p) kept) (begin_side (text_machine (unit_of project) (pou_text p)) other)
+  begin_agrees kept other same = record {
     state = record {
-      stores = λ q h. begun_same c e (worlds_extend project fits) owns kept q h;
-      memories = λ q k h. sym (begun_own c e (worlds_extend project fits) owns kept (folded (memory_name k)) q (memory_own k) h);
+      stores = λ q h. begun_same c e (worlds_extend project fits) owns kept q h ∙ ap (λ v. if is_declared q && is_retained e q then v else initial_at e q) (same q h);
+      memories = λ q k h. sym (begun_own c e (worlds_extend project fits) owns other (folded (memory_name k)) q (memory_own k) h);
       lefts = refl;
     };
     halted = refl;
@@ -166,14 +169,32 @@ module _ (project : Project) (fits : ProjectFits project) (p : Pou) (there : Con
   pub program_same : IsSame (diagram_machine project p) (text_machine (unit_of project) (pou_text p))
   program_same = record {
     layouts = layouts_same c e (worlds_extend project fits) owns;
-    begins = λ kept. (begin_agrees kept).state.stores;
-    runs = λ kept retained es good turns. runs_alike turns es 0 good _ _ (begin_agrees kept);
+    begins = λ kept. (begin_agrees kept kept (λ q h. refl)).state.stores;
+    runs = λ kept retained es good turns. runs_alike turns es 0 good _ _ (begin_agrees kept kept (λ q h. refl));
   }
+
+  -- from the initial values on, which each side has from its own leaves
+  abbrev left_initial : Path → ℤ
+  left_initial = initial_in (diagram_machine project p).layout
+
+  abbrev right_initial : Path → ℤ
+  right_initial = initial_in (text_machine (unit_of project) (pou_text p)).layout
+
+  starts_agree : SidesAgree (begin_side (diagram_machine project p) left_initial) (begin_side (text_machine (unit_of project) (pou_text p)) right_initial)
+  starts_agree = begin_agrees left_initial right_initial (initial_alike (layout c) (layout e) program_same.layouts)
+
+  pub starts_same : SameValues (diagram_machine project p) (text_machine (unit_of project) (pou_text p))
+      (begin_side (diagram_machine project p) left_initial) (begin_side (text_machine (unit_of project) (pou_text p)) right_initial)
+  starts_same = starts_agree.state.stores
+
+  pub starts_run : (es : List Event) → AreEvents (layout c) 0 es → (turns : ℕ) → SameRuns (diagram_machine project p) (text_machine (unit_of project) (pou_text p)) turns es
+      (begin_side (diagram_machine project p) left_initial) (begin_side (text_machine (unit_of project) (pou_text p)) right_initial)
+  starts_run es good turns = runs_alike turns es 0 good _ _ starts_agree
 
   pub program_agrees : (kept : Path → ℤ) (es : List Event) → AreEvents (layout c) 0 es → (turns : ℕ)
       → AgreeThroughout (diagram_machine project p) (text_machine (unit_of project) (pou_text p)) turns es
       (begin_side (diagram_machine project p) kept) (begin_side (text_machine (unit_of project) (pou_text p)) kept)
-  program_agrees kept es good turns = agree_throughout turns es 0 good _ _ (begin_agrees kept)
+  program_agrees kept es good turns = agree_throughout turns es 0 good _ _ (begin_agrees kept kept (λ q h. refl))
 
 pub all_behave : (project : Project) → ProjectFits project → Behaves project (unit_of project)
 all_behave project fits name p named = (pou_text p, program_text name project ∙ ap (option_map pou_text) named, program_same project fits p (program_there name project p named))

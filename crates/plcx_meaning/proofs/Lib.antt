@@ -23,6 +23,7 @@ pub mod Nesting
 pub mod Layouts
 pub mod Declared
 pub mod Times
+pub mod Starts
 pub mod Events
 pub mod Traced
 pub mod Turns

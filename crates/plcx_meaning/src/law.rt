@@ -3,8 +3,8 @@ ghost use Rattle.std.specs.Prelude.{◌≡◌, ◌+◌, ℕ, ℤ, Bool, List, So
 ghost use Rattle.plcx_meaning.specs.Base.{Path, Site, Outcome, Ended, then_do, spend, Each};
 ghost use Rattle.plcx_meaning.specs.Tree.{Expression, Statement, While, Statements, PouText};
 ghost use Rattle.plcx_meaning.specs.Layout.{Variable, Scope, layout, IsSpelled, IsOutside, IsRetainedState};
-ghost use Rattle.plcx_meaning.specs.Traces.{trace_from};
-ghost use Rattle.plcx_meaning.specs.Run.{Input, Event, Scan, Machine, Side, after, last_after, begin_side, CanFollow};
+ghost use Rattle.plcx_meaning.specs.Traces.{trace_from, diagram_trace, text_trace};
+ghost use Rattle.plcx_meaning.specs.Run.{Input, Event, Scan, Machine, Side, after, last_after, begin_side, AreEvents, CanFollow};
 ghost use Rattle.plcx_meaning.specs.Diagram.{Element, Pou, Project, program_named};
 ghost use Rattle.plcx_meaning.specs.Evaluate.{Diagram, no_wires, elements_do, successor, at_network, jumping, Setting, with_standard, blocks_do, program_does, diagram_machine};
 ghost use Rattle.plcx_meaning.specs.Execute.{Run, Frame, Here, with_truth, value_of, run_statement, run_statements, run_list, blocks_run, program_runs, text_machine};
@@ -16,11 +16,12 @@ ghost use Rattle.plcx_meaning.specs.Turns.{LeavesAtMost};
 
 /// The text of a project that fits does what the project does: for every program, retained state, list of scans and restarts, and budget.
 /// Both tell the same after each event, which is a step, with the same values on all declared paths; and what either keeps agrees throughout, the memories of each instance and the turns that are left included.
-/// So both have the same trace: what is told and shown after each event, and what is retained at the end.
+/// So both have the same trace: what is told and shown after each event, and what is retained at the end; also where no retained state is given and each begins from the initial values of its own leaves.
 pub fn same_behavior()
     ensures behaves { (project : Project) → ProjectFits project → Behaves project (unit_of project) }
     ensures agrees { (project : Project) → ProjectFits project → (name : List ℕ) (p : Pou) → program_named name project ≡ Some p → (kept : Path → ℤ) (es : List Event) → CanFollow (diagram_machine project p) (begin_side (diagram_machine project p) kept) es → (turns : ℕ) → AgreeThroughout (diagram_machine project p) (text_machine (unit_of project) (pou_text p)) turns es (begin_side (diagram_machine project p) kept) (begin_side (text_machine (unit_of project) (pou_text p)) kept) }
     ensures traces { (project : Project) → ProjectFits project → (name : List ℕ) (p : Pou) → program_named name project ≡ Some p → (kept : Path → ℤ) → IsRetainedState (diagram_machine project p).layout kept → (es : List Event) → CanFollow (diagram_machine project p) (begin_side (diagram_machine project p) kept) es → (turns : ℕ) → trace_from (diagram_machine project p) turns es (begin_side (diagram_machine project p) kept) ≡ trace_from (text_machine (unit_of project) (pou_text p)) turns es (begin_side (text_machine (unit_of project) (pou_text p)) kept) }
+    ensures starts { (project : Project) → ProjectFits project → (name : List ℕ) (p : Pou) → program_named name project ≡ Some p → (es : List Event) → AreEvents (diagram_machine project p).layout 0 es → (turns : ℕ) → diagram_trace project p turns es ≡ text_trace project p turns es }
 {}
 
 /// A scan of a side that is halted changes nothing but the time of the last scan.
