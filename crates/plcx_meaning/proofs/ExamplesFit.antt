@@ -1,5 +1,5 @@
 -- Two of the examples meet what the checks of a project promise.
-use Rattle.std.proofs.Common.{◌≡◌, ◌≢◌, ◌<◌, ◌^◌, ℕ, suc, true, false, Bool, ◌&&◌, List, [], ◌∷◌, map, length, Option, Some, None, refl, sym, ap, ◌∙◌, subst, arith, leb-true}
+use Rattle.std.proofs.Common.{◌≡◌, ◌≢◌, ◌<◌, ◌^◌, ℕ, suc, true, false, Bool, ◌&&◌, List, [], ◌∷◌, map, filter, length, Option, Some, None, refl, sym, ap, ◌∙◌, subst, arith, leb-true}
 use Rattle.std.specs.Prelude.{pos, IsTrue, nat_le, if◌then◌else◌}
 use Rattle.std.specs.List.{list_all, Contains}
 use Rattle.std.specs.Str.{bytes_eq}
@@ -12,8 +12,8 @@ use Rattle.plcx_std.specs.Kind.{kind_named}
 use Rattle.plcx_meaning.specs.Base.{Each, are_distinct}
 use Rattle.plcx_meaning.specs.Tree.{Local, Constant, Temp}
 use Rattle.plcx_meaning.specs.Layout.{IsRetainedState, Variable, variables_of, variable_named}
-use Rattle.plcx_meaning.specs.Diagram.{Source, Port, ports, Element, Pou, Project, block_named}
-use Rattle.plcx_meaning.specs.Fits.{IsGoodName, Standing, SourceFits, LinkFits, EnableFits, IsPin, PortsFit, is_known, VariableFits, PouFits, Nests, ProjectFits}
+use Rattle.plcx_meaning.specs.Diagram.{Source, Port, ports, is_fed, Element, Pou, Project, block_named}
+use Rattle.plcx_meaning.specs.Fits.{IsGoodName, Standing, SourceFits, LinkFits, EnableFits, IsPin, PortsFit, is_known, printed_type, VariableFits, PouFits, Nests, ProjectFits}
 use Rattle.plcx_meaning.specs.Pieces.{link, always}
 use Rattle.plcx_meaning.specs.ExampleRungs.{motor, motor_events}
 use Rattle.plcx_meaning.specs.ExampleFeedback.{saturating}
@@ -40,7 +40,7 @@ nests_by n project p each x v named = (of_named (NestsBy n project) x (variables
 elementary : (n : ℕ) (project : Project) (t : Ty) (v : Variable) → type_named v.ty ≡ Some t → NestsBy n project v
 elementary n project t v typed = record { below = λ none. absurd (let h : Some t ≡ None = sym typed ∙ none in cc) }
 
-plain : (project : Project) (v : Variable) → IsGoodName v.name → v.class ≢ Temp → is_known project v.ty ≡ true → IsTrue (is_identifier v.ty) → v.initial ≡ None → (type_named v.ty ≡ None → (v.class ≡ Local) × (v.mark ≢ Constant)) → VariableFits project v
+plain : (project : Project) (v : Variable) → IsGoodName v.name → v.class ≢ Temp → is_known project v.ty ≡ true → v.ty ≡ printed_type project v.ty → v.initial ≡ None → (type_named v.ty ≡ None → (v.class ≡ Local) × (v.mark ≢ Constant)) → VariableFits project v
 plain project v good class known spelled none instance =
     record { name = good; class = class; known = known; spelled = spelled; initial = λ value e. absurd (let h : None ≡ Some value = sym none ∙ e in cc); instance = instance }
 
@@ -57,13 +57,12 @@ pins_fit (o ∷ os) h =
     let own = and_parts (list_all is_next_byte o.pin) (nat_le (length o.pin) 64) parts.0 in
     ((own.0, leb-true (length o.pin) 64 own.1), pins_fit os parts.1)
 
--- an element with these outputs, none of which feeds back
-ports_fit : (e : Element) → e.id < 2 ^ 64 → are_distinct (map (λ (o : Port). folded o.pin) (ports e.kind)) ≡ true → e.fed ≡ [] → list_all is_pin (ports e.kind) ≡ true → PortsFit e
-ports_fit e small distinct none named = record {
+-- an element with these outputs
+ports_fit : (p : Pou) (e : Element) → e.id < 2 ^ 64 → are_distinct (map (λ (o : Port). folded o.pin) (ports e.kind)) ≡ true → e.fed ≡ filter (is_fed p e.id) (ports e.kind) → list_all is_pin (ports e.kind) ≡ true → PortsFit p e
+ports_fit p e small distinct fed named = record {
   small = small;
   pins = distinct;
-  fed = subst (Each (Contains (ports e.kind))) (sym none) tt;
-  distinct = ap (λ fed. are_distinct (map (λ (o : Port). folded o.pin) fed)) none;
+  fed = fed;
   names = pins_fit (ports e.kind) named;
 }
 
@@ -87,12 +86,12 @@ motor_fits = record {
   parts = omega arith;
   addresses = ((tt, (tt, (tt, tt))), tt);
   ports = (
-    ports_fit _ (omega arith) refl refl refl,
+    ports_fit _ _ (omega arith) refl refl refl,
     (
-      ports_fit _ (omega arith) refl refl refl,
+      ports_fit _ _ (omega arith) refl refl refl,
       (
-        ports_fit _ (omega arith) refl refl refl,
-        (ports_fit _ (omega arith) refl refl refl, (ports_fit _ (omega arith) refl refl refl, (ports_fit _ (omega arith) refl refl refl, tt))),
+        ports_fit _ _ (omega arith) refl refl refl,
+        (ports_fit _ _ (omega arith) refl refl refl, (ports_fit _ _ (omega arith) refl refl refl, (ports_fit _ _ (omega arith) refl refl refl, tt))),
       ),
     ),
   );
@@ -150,18 +149,18 @@ loop_fits = record {
   parts = omega arith;
   addresses = ((tt, tt), tt);
   ports = (
-    ports_fit _ (omega arith) refl refl refl,
+    ports_fit _ _ (omega arith) refl refl refl,
     (
-      ports_fit _ (omega arith) refl refl refl,
+      ports_fit _ _ (omega arith) refl refl refl,
       (
-        ports_fit _ (omega arith) refl refl refl,
+        ports_fit _ _ (omega arith) refl refl refl,
         (
-          ports_fit _ (omega arith) refl refl refl,
+          ports_fit _ _ (omega arith) refl refl refl,
           (
-            ports_fit _ (omega arith) refl refl refl,
+            ports_fit _ _ (omega arith) refl refl refl,
             (
-              ports_fit _ (omega arith) refl refl refl,
-              (ports_fit _ (omega arith) refl refl refl, (ports_fit _ (omega arith) refl refl refl, (ports_fit _ (omega arith) refl refl refl, tt))),
+              ports_fit _ _ (omega arith) refl refl refl,
+              (ports_fit _ _ (omega arith) refl refl refl, (ports_fit _ _ (omega arith) refl refl refl, (ports_fit _ _ (omega arith) refl refl refl, tt))),
             ),
           ),
         ),
@@ -241,7 +240,7 @@ nested_fits = record {
   leaves = omega arith;
   parts = omega arith;
   addresses = ((tt, (tt, tt)), tt);
-  ports = (ports_fit _ (omega arith) refl refl refl, (ports_fit _ (omega arith) refl refl refl, (ports_fit _ (omega arith) refl refl refl, tt)));
+  ports = (ports_fit _ _ (omega arith) refl refl refl, (ports_fit _ _ (omega arith) refl refl refl, (ports_fit _ _ (omega arith) refl refl refl, tt)));
   networks = (
     (
       (0, omega arith, refl),

@@ -1,4 +1,5 @@
 pub mod Lists
+pub mod Fed
 pub mod FunctionValues
 pub mod Alike
 pub mod Asked

@@ -16,6 +16,7 @@ use Rattle.plcx_meaning.specs.Diagram.{Port, ports, has_edge, Element, Pou, Proj
 use Rattle.plcx_meaning.specs.Execute.{Temporary, Kept, place, elementary, place_by}
 use Rattle.plcx_meaning.specs.Templates.{wire_name, memory_name, counter_name, own, element_memories, element_wires, counter, pou_text}
 use Rattle.plcx_meaning.specs.Fits.{PortsFit, VariableFits, PouFits}
+use Rattle.plcx_meaning.proofs.Fed.{fed_distinct}
 use Rattle.plcx_meaning.proofs.Names.{bytes_self, same_wires, same_wires_to, IsSmall, same_memories, same_memories_to, wire_own, memory_own, counter_own, memory_not_wire, memory_not_counter, wire_not_counter, declared_name}
 use Rattle.plcx_meaning.proofs.Lists.{contains_cases, contains_none, contains_map, each_at, each_weaker, each_append, each_map, each_flat_map, each_from, none_passes, distinct_parts}
 use Rattle.plcx_meaning.proofs.Lookups.{map_append, map_flat, kept_variables, passing_variables, own_variables, text_variables, named_first, named_second, named_in, IsDeclaredVariable, own_not_named, not_named}
@@ -172,7 +173,7 @@ wire_variable : (project : Project) (p : Pou) → PouFits project p → (e : Ele
     → variable_named (folded (wire_name e.id o.pin)) (variables_of (pou_text p).blocks) ≡ Some (own_variable Temp (wire_name e.id o.pin) o.ty)
 wire_variable project p fits e o there among =
     let key = folded (wire_name e.id o.pin) in
-    let fit : PortsFit e = each_at PortsFit p.elements e fits.ports there in
+    let fit : PortsFit p e = each_at (PortsFit p) p.elements e fits.ports there in
     let found = named_in (λ (y : Element). wire_variables y.id (ports y.kind)) (λ (y : Element). y.id) key e.id (λ y other. wires_apart y.id e.id o.pin fit.small other (ports y.kind)) p.elements e (own_variable Temp (wire_name e.id o.pin) o.ty) refl fits.ids there (wire_among e.id fit.small (ports e.kind) o fit.pins among) in
     passing_in_text project p fits key _ (wire_own e.id o.pin) (λ k. memory_not_wire k e.id o.pin)
     (ap (variable_named key) (map_append (variable Temp Plain) (flat_map element_wires p.elements) (counter p.networks))
@@ -194,15 +195,15 @@ module _ (project : Project) (p : Pou) (fits : PouFits project p) (world : World
 
   pub edge_place : (e : Element) → Contains p.elements e → has_edge e.kind ≡ true → place world (variable_named (folded (memory_name (AtEdge e.id))) (variables_of (pou_text p).blocks)) ≡ Kept ty.Bool
   edge_place e there edge =
-      let fit : PortsFit e = each_at PortsFit p.elements e fits.ports there in
+      let fit : PortsFit p e = each_at (PortsFit p) p.elements e fits.ports there in
       ap (place world) (memory_variable project p fits e (AtEdge e.id) _ there refl fit.small (edge_among e edge)) ∙ own_place world Local (memory_name (AtEdge e.id)) ty.Bool
 
   pub fed_place : (e : Element) (o : Port) → Contains p.elements e → Contains e.fed o → place world (variable_named (folded (memory_name (AtOutput e.id o.pin))) (variables_of (pou_text p).blocks)) ≡ Kept o.ty
   fed_place e o there among =
-      let fit : PortsFit e = each_at PortsFit p.elements e fits.ports there in
+      let fit : PortsFit p e = each_at (PortsFit p) p.elements e fits.ports there in
       let key = folded (memory_name (AtOutput e.id o.pin)) in
       let found : variable_named key (memory_variables e) ≡ Some (own_variable Local (memory_name (AtOutput e.id o.pin)) o.ty) =
-      ap (variable_named key) (memories_are e) ∙ named_second key (edge_variables (has_edge e.kind) e.id) (fed_variables e.id e.fed) (no_edge (has_edge e.kind) e.id e.id o.pin) ∙ fed_among e.id fit.small e.fed o fit.distinct among in
+      ap (variable_named key) (memories_are e) ∙ named_second key (edge_variables (has_edge e.kind) e.id) (fed_variables e.id e.fed) (no_edge (has_edge e.kind) e.id e.id o.pin) ∙ fed_among e.id fit.small e.fed o (fed_distinct p e fit) among in
       ap (place world) (memory_variable project p fits e (AtOutput e.id o.pin) _ there refl fit.small found) ∙ own_place world Local (memory_name (AtOutput e.id o.pin)) o.ty
 
   pub counter_place : has_jump p.networks ≡ true → place world (variable_named (folded counter_name) (variables_of (pou_text p).blocks)) ≡ Temporary ty.Dint

@@ -18,6 +18,7 @@ use Rattle.plcx_meaning.specs.Execute as text
 use Rattle.plcx_meaning.specs.Execute.{Place, Temporary, Kept, Instance, place_by, place, Here, place_of, Frame, parts_named, read_member, read_output, value_of, Formal, Takes, Binds, formal_by, formal, formal_named, is_bound, all_bound}
 use Rattle.plcx_meaning.specs.Templates.{wire_name, memory_name, input_text, in_out_text, unit_of}
 use Rattle.plcx_meaning.specs.Fits.{IsInstance, SourceFits, LinkFits, OperandFits, StoringFits, EnableFits, InputFits, InOutFits, OutputFits, all_listed, CallFits, TruthFits, KindFits, fixed_by, ElementsFit, PortsFit, PouFits, ProjectFits}
+use Rattle.plcx_meaning.proofs.Fed.{fed_ports}
 use Rattle.plcx_meaning.proofs.Lists.{each_at, each_from, each_map, each_append}
 use Rattle.plcx_meaning.proofs.LookupsOwn.{elementary_meaning, composed_meaning, wire_place, edge_place, fed_place, counter_place}
 use Rattle.plcx_meaning.proofs.StaticsWorlds.{hidden, hidden_each}
@@ -185,13 +186,13 @@ module _ (project : Project) (p : Pou) (fits : ProjectFits project) (there : Con
   own_asked : (e : Element) → Contains p.elements e → OwnAsked (here project p site) e
   own_asked e among =
       let pf : PouFits project p = pou_fits project p fits there site ok in
-      let fit : PortsFit e = each_at PortsFit p.elements e pf.ports among in
+      let fit : PortsFit p e = each_at (PortsFit p) p.elements e pf.ports among in
       let world = text.world_of (unit_of project) in
       record {
         small = fit.small;
         wires = each_from _ (ports e.kind) (λ o is. wire_place project p pf world e o among is);
         edge = edge_place project p pf world e among;
-        fed = each_from _ e.fed (λ o is. (fed_place project p pf world e o among is, each_at (Contains (ports e.kind)) e.fed o fit.fed is));
+        fed = each_from _ e.fed (λ o is. (fed_place project p pf world e o among is, each_at (Contains (ports e.kind)) e.fed o (fed_ports p e fit) is));
       }
 
   elements_asked : (done : List (ℕ × Port)) → FixedAsked done → (es : List Element) → ElementsFit project p done es → ElementsAsked (here project p site) (variables_of p.lists) done es

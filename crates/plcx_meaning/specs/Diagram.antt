@@ -1,5 +1,5 @@
 -- Diagrams as the checks of a project hand them on: with their links, types, feedback and networks.
-use Rattle.std.specs.Prelude.{ℕ, ◌+◌, ℤ, Bool, true, false, not, ◌||◌, ◌&&◌, is_some, List, [], ◌∷◌, ◌++◌, Option, Some, None, codes, if◌then◌else◌}
+use Rattle.std.specs.Prelude.{ℕ, ◌+◌, ℤ, Bool, true, false, not, ◌||◌, ◌&&◌, is_some, nat_eq, List, [], ◌∷◌, ◌++◌, Option, Some, None, map, codes, if◌then◌else◌}
 use Rattle.std.specs.List.{list_any}
 use Rattle.std.specs.Str.{bytes_eq}
 use Rattle.plcx_types.specs.declared.ty.Ty.{Ty}
@@ -9,18 +9,19 @@ use Rattle.plcx_funcs.specs.declared.func.Func.{Func}
 use Rattle.plcx_meaning.specs.Functions.{out_type}
 use Rattle.plcx_meaning.specs.Tree.{PouKind, Program, FunctionBlock, Block}
 
--- what a pin is wired to
+-- What a pin is wired to. An output is named by its element's number and its pin, which has the very bytes that it has among the element's ports.
 pub data Source : Type 0 where
   -- a left rail
   Rail : Source
-  -- a literal, in the type of the pin, and whether its inVariable is negated
+  -- a literal, in the type of the link, and whether its inVariable is negated
   Literal : (negated : Bool) → ℤ → Source
-  -- an output that is fixed before: the element's number, and the name of a block's pin, which is empty elsewhere
+  -- an output that is fixed before
   Wire : ℕ → (pin : List ℕ) → Source
   -- an output that feeds back
   Back : ℕ → (pin : List ℕ) → Source
 
--- what stands at an input pin: the OR of its sources, negated or not
+-- What stands at an input pin: the OR of its sources, negated or not. Its type is that of the pin; where the pin takes any type it is that of its
+-- sources, and DINT where they are literals without a type.
 pub record Link : Type 0 where
   pub ty : Ty
   pub negated : Bool
@@ -45,7 +46,7 @@ pub data Coiling : Type 0 where
   By : Storing → Coiling
   RisingCoil FallingCoil : Coiling
 
--- EN where it is connected, and ENO where it is listed, with its negation
+-- EN where it is connected, and ENO where it is listed, with its negation. An EN that is not connected is left out, as if it were not listed.
 pub record Enable : Type 0 where
   pub en : Option Link
   pub eno : Option Bool
@@ -79,17 +80,18 @@ pub data Kind : Type 0 where
   Label : List ℕ → Kind
   Jump : (label : List ℕ) → Link → Kind
   Return : Link → Kind
-  -- a function at the type of its group, with its inputs in the order of the signature; negated is said of OUT
+  -- a function at the type of its group, a conversion at the type that it converts from; its inputs go in the order of the signature, and negated is
+  -- said of OUT
   Function : Func → Ty → Enable → List Link → (negated : Bool) → Kind
   -- an instance of a block, with its connected inputs, its in-outs and its listed outputs, each in the listed order
   Call : (instance : List ℕ) → Enable → List Input → List InOut → List Output' → Kind
 
--- an output of an element, with its type
+-- an output of an element, with its type; the name of its pin is empty but at a block
 pub record Port : Type 0 where
   pub pin : List ℕ
   pub ty : Ty
 
--- fed are the outputs that some feedback connection reads
+-- an element by its number, and those of its ports that feed back, which are those that is_fed says, in the order of the ports
 pub record Element : Type 0 where
   pub id : ℕ
   pub kind : Kind
@@ -123,6 +125,9 @@ abbrev pub output_ports : List Output' → List Port
 output_ports [] = []
 output_ports (o ∷ os) = port o.name o.ty ∷ output_ports os
 
+abbrev pub enable_links : Enable → List Link
+enable_links e = elim e.en [ Some link ↦ link ∷ [] | None ↦ [] ]
+
 -- the outputs of an element, which are its wires, in their order
 abbrev pub ports : Kind → List Port
 ports Still = []
@@ -136,6 +141,31 @@ ports (Jump label link) = port [] ty.Bool ∷ []
 ports (Return link) = port [] ty.Bool ∷ []
 ports (Function f t enable inputs negated) = eno_ports enable ++ port (codes "OUT") (out_type f t) ∷ []
 ports (Call instance enable inputs in_outs outputs) = eno_ports enable ++ output_ports outputs
+
+-- the links of an element, in the order of its pins
+abbrev pub links_of : Kind → List Link
+links_of Still = []
+links_of (In t negated operand) = []
+links_of (Out how x link) = link ∷ []
+links_of (Contact how operand link) = link ∷ []
+links_of (Coil how x link) = link ∷ []
+links_of (Pass link) = link ∷ []
+links_of (Label name) = []
+links_of (Jump label link) = link ∷ []
+links_of (Return link) = link ∷ []
+links_of (Function f t enable inputs negated) = enable_links enable ++ inputs
+links_of (Call instance enable inputs in_outs outputs) = enable_links enable ++ map (λ (i : Input). i.link) inputs
+
+abbrev pub reads_back : ℕ → List ℕ → Source → Bool
+reads_back id pin (Back i p) = nat_eq i id && bytes_eq p pin
+reads_back id pin _ = false
+
+abbrev pub link_reads_back : ℕ → List ℕ → Link → Bool
+link_reads_back id pin link = list_any (reads_back id pin) (link.first ∷ link.others)
+
+-- some element of the POU reads the output of this number and pin as one that feeds back
+abbrev pub is_fed : Pou → ℕ → Port → Bool
+is_fed p id o = list_any (λ (e : Element). list_any (link_reads_back id o.pin) (links_of e.kind)) p.elements
 
 -- the element remembers a value at its edge
 abbrev pub has_edge : Kind → Bool

@@ -1,5 +1,6 @@
 -- What the checks of a project promise of its diagrams.
-use Rattle.std.specs.Prelude.{◌≡◌, ◌≢◌, ◌≤◌, ◌<◌, ◌^◌, ℕ, suc, zero, Bool, true, false, not, ◌||◌, ◌++◌, is_some, List, [], ◌∷◌, Some, None, map, length, nat_eq, IsTrue, ◌+◌, if◌then◌else◌}
+use Rattle.std.specs.Prelude.{◌≡◌, ◌≢◌, ◌≤◌, ◌<◌, ◌^◌, ℕ, suc, zero, Bool, true, false, not, ◌||◌, ◌++◌, is_some, List, [], ◌∷◌, Some, None, map, filter, length, nat_eq, IsTrue, ◌+◌, if◌then◌else◌}
+use Rattle.std.specs.Char.{to_ascii_uppercase}
 use Rattle.std.specs.List.{list_any, list_all, sum_by, Contains}
 use Rattle.std.specs.Str.{bytes_eq}
 use Rattle.plcx_types.specs.declared.ty.Ty.{Ty}
@@ -18,7 +19,7 @@ use Rattle.plcx_meaning.specs.Tree.{PouKind, Program, Class, Temp, Plain, Declar
 use Rattle.plcx_meaning.specs.Address.{AddressFits}
 use Rattle.plcx_meaning.specs.Layout.{Variable, variables_of, variable_named, World, composed, layout}
 use Rattle.plcx_meaning.specs.Functions.{group_of, can_apply, out_type}
-use Rattle.plcx_meaning.specs.Diagram.{Source, Rail, Literal, Wire, Back, Link, Operand, Own, Output, Storing, Stored, Enable, Input, InOut, Output', Kind, Still, In, Out, Contact, Coil, Pass, Label, Jump, Return, Function, Call, Port, port, ports, Element, Pou, Project, block_named}
+use Rattle.plcx_meaning.specs.Diagram.{Source, Rail, Literal, Wire, Back, Link, Operand, Own, Output, Storing, Stored, Enable, Input, InOut, Output', Kind, Still, In, Out, Contact, Coil, Pass, Label, Jump, Return, Function, Call, Port, port, ports, is_fed, Element, Pou, Project, block_named}
 use Rattle.plcx_meaning.specs.Evaluate.{world_of, scope_of}
 
 -- a name that a diagram may give
@@ -140,7 +141,8 @@ fixed_by e = map (λ (o : Port). (e.id, o)) (ports e.kind)
 abbrev pub is_fresh : ℕ → List (ℕ × Port) → Bool
 is_fresh id done = list_all (λ (d : ℕ × Port). not (nat_eq d.0 id)) done
 
--- each element is one of the POU's, is evaluated once, and stands behind its sources
+-- Each element is one of the POU's and stands behind its sources, and none of its outputs is fixed before: so one with outputs stands once, while one
+-- without may stand again.
 abbrev pub ElementsFit : Project → Pou → List (ℕ × Port) → List Element → Type 0
 ElementsFit project p done [] = Unit {0}
 ElementsFit project p done (e ∷ es) =
@@ -151,17 +153,22 @@ ElementsFit project p done (e ∷ es) =
 abbrev pub IsPin : Port → Type 0
 IsPin o = (list_all is_next_byte o.pin ≡ true) × (length o.pin ≤ 64)
 
--- an element's outputs have names of their own, and what feeds back is among them
-pub record PortsFit (e : Element) : Type 0 where
+-- an element's outputs have names of their own, and those that feed back are the ones that are read so
+pub record PortsFit (p : Pou) (e : Element) : Type 0 where
   pub small : e.id < 2 ^ 64
   pub pins : are_distinct (map (λ (o : Port). folded o.pin) (ports e.kind)) ≡ true
-  pub fed : Each (Contains (ports e.kind)) e.fed
-  pub distinct : are_distinct (map (λ (o : Port). folded o.pin) e.fed) ≡ true
+  pub fed : e.fed ≡ filter (is_fed p e.id) (ports e.kind)
   pub names : Each IsPin (ports e.kind)
 
 -- a type that a variable may have
 abbrev pub is_known : Project → List ℕ → Bool
 is_known project name = is_some (type_named name) || (is_some (kind_named name) || is_some (block_named name project))
+
+-- the name of a type as the text prints it: in capitals, and that of a function block as its POU declares it
+abbrev pub printed_type : Project → List ℕ → List ℕ
+printed_type project name =
+    if is_some (type_named name) || is_some (kind_named name) then map to_ascii_uppercase name
+    else (elim (block_named name project) [ Some q ↦ q.name | None ↦ name ])
 
 abbrev pub InitialFits : Variable → Type 0
 InitialFits v = (value : Value) → v.initial ≡ Some value → (type_named v.ty ≡ Some value.ty) × InRange value.ty value.n
@@ -170,7 +177,7 @@ pub record VariableFits (project : Project) (v : Variable) : Type 0 where
   pub name : IsGoodName v.name
   pub class : v.class ≢ Temp
   pub known : is_known project v.ty ≡ true
-  pub spelled : IsTrue (is_identifier v.ty)
+  pub spelled : v.ty ≡ printed_type project v.ty
   pub initial : InitialFits v
   -- an instance stands among the local variables that are no constants
   pub instance : type_named v.ty ≡ None → (v.class ≡ tree.Local) × (v.mark ≢ tree.Constant)
@@ -198,7 +205,7 @@ pub record PouFits (project : Project) (p : Pou) : Type 0 where
   pub few : length (variables_of p.lists) ≤ 4096
   pub ids : all_differ (map (λ (e : Element). e.id) p.elements) ≡ true
   pub elements : length p.elements ≤ 4096
-  pub ports : Each PortsFit p.elements
+  pub ports : Each (PortsFit p) p.elements
   pub networks : Each (ElementsFit project p []) p.networks
   pub count : length p.networks ≤ 4096
   pub in_outs : Each (InOutsFit p.kind) p.lists
