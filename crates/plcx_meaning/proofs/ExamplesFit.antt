@@ -1,4 +1,4 @@
--- Two of the examples meet what the checks of a project promise.
+-- Three of the examples meet what the checks of a project promise.
 use Rattle.std.proofs.Common.{◌≡◌, ◌≢◌, ◌<◌, ◌^◌, ℕ, suc, true, false, Bool, ◌&&◌, List, [], ◌∷◌, map, filter, length, Option, Some, None, refl, sym, ap, ◌∙◌, subst, arith, leb-true}
 use Rattle.std.specs.Prelude.{pos, IsTrue, nat_le, if◌then◌else◌}
 use Rattle.std.specs.List.{list_all, Contains}
@@ -11,15 +11,16 @@ use Rattle.plcx_types.specs.TypeName.{type_named}
 use Rattle.plcx_std.specs.Kind.{kind_named}
 use Rattle.plcx_meaning.specs.Base.{Each, are_distinct}
 use Rattle.plcx_meaning.specs.Tree.{Local, Constant, Temp}
-use Rattle.plcx_meaning.specs.Layout.{IsRetainedState, Variable, variables_of, variable_named}
+use Rattle.plcx_meaning.specs.Layout.{initial_in, IsRetainedState, Variable, variables_of, variable_named}
 use Rattle.plcx_meaning.specs.Diagram.{Source, Port, ports, is_fed, Element, Pou, Project, block_named}
 use Rattle.plcx_meaning.specs.Fits.{IsGoodName, Standing, SourceFits, LinkFits, EnableFits, IsPin, PortsFit, is_known, printed_type, VariableFits, PouFits, Nests, ProjectFits}
 use Rattle.plcx_meaning.specs.Pieces.{link, always}
 use Rattle.plcx_meaning.specs.ExampleRungs.{motor, motor_events}
-use Rattle.plcx_meaning.specs.ExampleFeedback.{saturating}
+use Rattle.plcx_meaning.specs.ExampleFeedback.{counting, saturating}
 use Rattle.plcx_meaning.specs.Evaluate.{diagram_machine}
 use Rattle.plcx_meaning.specs.Run.{AreEvents}
 use Rattle.plcx_meaning.specs.ExampleLoops.{loop_block, nested_loop}
+use Rattle.plcx_meaning.specs.ExampleStarts.{idle}
 
 -- what holds of each variable holds of the one of a name
 picked : (P : Variable → Type 0) (b : Bool) (w v : Variable) (o : Option Variable) → P w → (o ≡ Some v → P v) → (if b then Some w else o) ≡ Some v → P v
@@ -286,6 +287,58 @@ nested_project_fits = record {
   nests = (nests_by 15 both nested_loop (record { below = λ none other. (loop_block, refl, loop_nests 14) }, (elementary _ _ ty.Int _ refl, tt)), (loop_nests 15, tt));
 }
 
+-- a program whose sum feeds back
+counting_fits : PouFits (counting ∷ []) counting
+counting_fits = record {
+  name = (refl, omega arith, refl);
+  variables = (plain _ _ (refl, omega arith, refl) (λ e. cc) refl refl refl (λ e. (refl, (λ h. cc))), tt);
+  distinct = refl;
+  few = omega arith;
+  ids = refl;
+  elements = omega arith;
+  count = omega arith;
+  in_outs = ((λ e. absurd (cc)), tt);
+  leaves = omega arith;
+  parts = omega arith;
+  addresses = ((tt, tt), tt);
+  ports = (ports_fit _ _ (omega arith) refl refl refl, (ports_fit _ _ (omega arith) refl refl refl, (ports_fit _ _ (omega arith) refl refl refl, tt)));
+  networks = (
+    (
+      (0, omega arith, refl),
+      refl,
+      tt,
+      (
+        (1, omega arith, refl),
+        refl,
+        (
+          record {
+            function = refl;
+            group = refl;
+            applies = refl;
+            inputs = (one_source _ _ _ ((omega arith, omega arith), (λ e. cc)), (one_source _ _ _ (_, (1, omega arith, refl), refl, (0, omega arith, refl)), tt));
+          },
+          no_enable _,
+          (λ e. cc),
+        ),
+        (
+          (2, omega arith, refl),
+          refl,
+          (record { variable = _; found = refl; typed = refl; class = λ e. cc }, tt, one_source _ _ _ (0, omega arith, refl), (λ v e. ((λ h. cc), (λ h. cc)))),
+          tt,
+        ),
+      ),
+    ),
+    tt,
+  );
+}
+
+pub counting_project_fits : ProjectFits (counting ∷ [])
+counting_project_fits = record {
+  names = refl;
+  pous = (counting_fits, tt);
+  nests = (nests_by 15 (counting ∷ []) counting (elementary _ _ ty.Int _ refl, tt), tt);
+}
+
 pub motor_events_fit : AreEvents (diagram_machine (motor ∷ []) motor).layout 0 motor_events
 motor_events_fit = (
   omega arith,
@@ -301,3 +354,6 @@ motor_events_fit = (
 
 pub saturating_begins : IsRetainedState (diagram_machine (saturating ∷ []) saturating).layout (λ p. pos 0)
 saturating_begins = ((λ e. (omega arith, omega arith)), tt)
+
+pub idle_begins : IsRetainedState (diagram_machine (idle ∷ []) idle).layout (initial_in (diagram_machine (idle ∷ []) idle).layout)
+idle_begins = ((λ e. absurd (cc)), ((λ e. (omega arith, omega arith)), tt))

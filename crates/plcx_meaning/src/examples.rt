@@ -1,6 +1,6 @@
 //! Worked examples: a diagram and its text have the trace that is written beside them, which neither was taken from.
 ghost use Rattle.std.specs.Prelude.{◌≡◌, ◌≢◌, pos, List, [], ◌∷◌, map};
-ghost use Rattle.plcx_meaning.specs.Layout.{Leaf, IsRetainedState};
+ghost use Rattle.plcx_meaning.specs.Layout.{Leaf, initial_in, IsRetainedState};
 ghost use Rattle.plcx_meaning.specs.Run.{AreEvents};
 ghost use Rattle.plcx_meaning.specs.Evaluate.{diagram_machine};
 ghost use Rattle.plcx_meaning.specs.Fits.{ProjectFits};
@@ -112,10 +112,12 @@ pub fn examples_of_starts()
     ensures paths { map (λ (leaf : Leaf). leaf.path) (diagram_machine (spelled_so ∷ []) spelled_so).layout ≡ paths }
 {}
 
-/// What the law presumes can be met, also by a program that calls a block with a jump.
+/// What the law presumes can be met, also by a program that calls a block with a jump, and by one with feedback.
 pub fn examples_that_fit()
     ensures motor { ProjectFits (motor ∷ []) }
     ensures motor_events { AreEvents (diagram_machine (motor ∷ []) motor).layout 0 motor_events }
     ensures nested_loop { ProjectFits (nested_loop ∷ loop_block ∷ []) }
+    ensures counting { ProjectFits (counting ∷ []) }
     ensures saturating { IsRetainedState (diagram_machine (saturating ∷ []) saturating).layout (λ p. pos 0) }
+    ensures idle { IsRetainedState (diagram_machine (idle ∷ []) idle).layout (initial_in (diagram_machine (idle ∷ []) idle).layout) }
 {}
