@@ -1,7 +1,7 @@
 -- Two pieces of a scan, one of each side, that come out alike; and how such pieces are put one after another.
-use Rattle.std.proofs.Common.{◌≡◌, refl, sym, subst}
+use Rattle.std.proofs.Common.{◌≡◌, List, [], ◌++◌, refl, sym, subst}
 use Rattle.plcx_meaning.specs.Base.{Stop, Outcome, Ended, Stopped, Stuck, then_do}
-use Rattle.plcx_meaning.specs.Evaluate.{Diagram}
+use Rattle.plcx_meaning.specs.Evaluate.{Heard, Diagram, hear, unheard}
 use Rattle.plcx_meaning.specs.Execute.{Run}
 use Rattle.plcx_meaning.specs.Same.{Agree}
 
@@ -41,3 +41,21 @@ alike_as {L} {K} {R} {o} p q e a = subst (λ x. Alike {L = L} {K = K} R o x) (sy
 
 pub alike_from : {L K : Type 0} {R : L → K → Type 0} (o n : Outcome Diagram L) {p : Outcome Run K} → o ≡ n → Alike R n p → Alike R o p
 alike_from {L} {K} {R} o n {p} e a = subst (λ x. Alike {L = L} {K = K} R x p) (sym e) a
+
+-- what a watch hears is no matter of agreement
+pub unheard_agrees : (d : Diagram) (g : Run) (hs : List Heard) → Agree d g → Agree (record d { heard = hs }) g
+unheard_agrees d g hs a = record { stores = a.stores; memories = a.memories; lefts = a.lefts }
+
+pub heard_alike : {L K : Type 0} {R : L → K → Type 0} (hs : List Heard) (d : Diagram) (l : L) (p : Outcome Run K) → Alike R (Ended d l) p → Alike R (Ended (hear hs d) l) p
+heard_alike hs d l (Ended g k) a = both_end (unheard_agrees d g (d.heard ++ hs) a.is.0) a.is.1
+heard_alike hs d l (Stopped s g) a = absurd a.is
+heard_alike hs d l Stuck a = absurd a.is
+
+pub unheard_alike : (o : Outcome Diagram (Unit {0})) (p : Outcome Run (Unit {0})) → Alike Nothing o p → Alike Nothing (unheard o) p
+unheard_alike (Ended d u) (Ended g k) a = both_end (unheard_agrees d g [] a.is.0) tt
+unheard_alike (Ended d u) (Stopped s g) a = absurd a.is
+unheard_alike (Ended d u) Stuck a = absurd a.is
+unheard_alike (Stopped s d) (Ended g k) a = absurd a.is
+unheard_alike (Stopped s d) (Stopped r g) a = record { is = (a.is.0, unheard_agrees d g [] a.is.1) }
+unheard_alike (Stopped s d) Stuck a = absurd a.is
+unheard_alike Stuck p a = absurd a.is

@@ -135,7 +135,7 @@ CallsAlike vs called call = (i : List ℕ) (v : Variable) → variable_named (fo
     → (site : Site) → IsDeclared site → (d : Diagram) (g : Run) → Agree d g → Alike Nothing (called v.ty site d) (call v.ty site g)
 
 -- elements one after another do what their text does
-abbrev pub ElementsAlike : Here → List Variable → Called → Invoked → Type 0
-ElementsAlike c vs called call = (done : List (ℕ × Port)) (es : List Element) → ElementsAsked c vs done es
+abbrev pub ElementsAlike : Here → ℕ → List Variable → Called → Invoked → Type 0
+ElementsAlike c pou vs called call = (done : List (ℕ × Port)) (es : List Element) → ElementsAsked c vs done es
     → (d : Diagram) (ws : Wires) (g : Run) (f : Frame) → Agree d g → SameWires done ws f
-    → Alike (SameWires (done_after es done)) (elements_do es (record { variables = vs; site = c.site; called = called }) d ws) (run_list (elements_text es) c call g f)
+    → Alike (SameWires (done_after es done)) (elements_do es (record { pou = pou; variables = vs; site = c.site; called = called }) d ws) (run_list (elements_text es) c call g f)

@@ -48,10 +48,10 @@ none_past [] i e = omega arith
 none_past (x ∷ xs) zero e = absurd (cc)
 none_past (x ∷ xs) (suc i) e = let h = none_past xs i e in omega arith
 
-module _ (c : Here) (vs : List Variable) (called : Called) (call : Invoked) (networks : List (List Element))
-    (elements : ElementsAlike c vs called call) where
+module _ (c : Here) (pou : ℕ) (vs : List Variable) (called : Called) (call : Invoked) (networks : List (List Element))
+    (elements : ElementsAlike c pou vs called call) where
   abbrev setting : Setting
-  setting = record { variables = vs; site = c.site; called = called }
+  setting = record { pou = pou; variables = vs; site = c.site; called = called }
 
   module _ (counter : place_of c counter_name ≡ Temporary ty.Dint) where
     -- the counter is set

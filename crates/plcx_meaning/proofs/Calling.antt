@@ -105,9 +105,9 @@ eno_first enable id outs done ws f same = by (has_eno enable) same
 abbrev pub Stays : Frame → Unit {0} → Frame → Type 0
 Stays f u h = h ≡ f
 
-module _ (c : Here) (vs : List Variable) (called : Called) (call : Invoked) (site : IsDeclared c.site) (calls : CallsAlike vs called call) where
+module _ (c : Here) (pou : ℕ) (vs : List Variable) (called : Called) (call : Invoked) (site : IsDeclared c.site) (calls : CallsAlike vs called call) where
   abbrev setting : Setting
-  setting = record { variables = vs; site = c.site; called = called }
+  setting = record { pou = pou; variables = vs; site = c.site; called = called }
 
   module _ (instance : List ℕ) (taken : List Input) (bound : List InOut) (given : List Output') (done : List (ℕ × Port)) (asked : CallAsked c vs done instance taken bound given) where
     abbrev arguments : List Argument

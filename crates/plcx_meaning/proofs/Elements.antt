@@ -8,14 +8,14 @@ use Rattle.plcx_meaning.specs.Base.{AtEdge, AtOutput, Each, Ended, then_do, not_
 use Rattle.plcx_meaning.specs.Layout.{Variable}
 use Rattle.plcx_meaning.specs.Functions.{Given}
 use Rattle.plcx_meaning.specs.Diagram.{Kind, Still, In, Out, Contact, Coil, Pass, Label, Jump, Return, Function, Call, Contacting, Open, Closed, RisingContact, FallingContact, Coiling, By, RisingCoil, FallingCoil, Link, Port, port, ports, has_edge, Element}
-use Rattle.plcx_meaning.specs.Evaluate.{Diagram, Wires, Called, Setting, set_memory, link_value, operand_leaf, kind_does, feed, element_does}
+use Rattle.plcx_meaning.specs.Evaluate.{Diagram, Wires, Called, Setting, set_memory, link_value, operand_leaf, kind_does, feed, outputs_heard, element_does}
 use Rattle.plcx_meaning.specs.Execute.{Temporary, Kept, Here, place_of, Run, Frame, value_of, Invoked, run_list}
 use Rattle.plcx_meaning.specs.Templates.{wire_name, memory_name, wire, link_text, operand_text, kind_text, feed_text, element_text, elements_text}
 use Rattle.plcx_meaning.specs.Templates as templates
 use Rattle.plcx_meaning.specs.Same.{Agree}
 use Rattle.plcx_meaning.specs.Fits.{fixed_by, is_fresh}
 use Rattle.plcx_meaning.proofs.Lists.{each_at}
-use Rattle.plcx_meaning.proofs.Alike.{Alike, both_end, alike_then, alike_as}
+use Rattle.plcx_meaning.proofs.Alike.{Alike, both_end, alike_then, alike_as, heard_alike}
 use Rattle.plcx_meaning.proofs.Asked.{IsDeclared, LinkAsked, KindAsked, OwnAsked, SameWires, CallsAlike, ElementsAlike}
 use Rattle.plcx_meaning.proofs.Agree.{agree_memory}
 use Rattle.plcx_meaning.proofs.Links.{assign_memory, negated_known, wire_known, operand_known, link_known}
@@ -43,9 +43,9 @@ of_ports id outs o done ws f same there = each_at (λ (p : Port). ws id p.pin �
     fronts [] s = tt
     fronts (p ∷ ps) s = (s.0, fronts ps s.1)
 
-module _ (c : Here) (vs : List Variable) (called : Called) (call : Invoked) (site : IsDeclared c.site) (calls : CallsAlike vs called call) where
+module _ (c : Here) (pou : ℕ) (vs : List Variable) (called : Called) (call : Invoked) (site : IsDeclared c.site) (calls : CallsAlike vs called call) where
   abbrev setting : Setting
-  setting = record { variables = vs; site = c.site; called = called }
+  setting = record { pou = pou; variables = vs; site = c.site; called = called }
 
   -- a link of truth values
   truth_known : (done : List (ℕ × Port)) (link : Link) → LinkAsked c done link → link.ty ≡ ty.Bool → (d : Diagram) (ws : Wires) (g : Run) (f : Frame) → Agree d g → SameWires done ws f
@@ -78,7 +78,7 @@ module _ (c : Here) (vs : List Variable) (called : Called) (call : Invoked) (sit
   kind_alike (Function fn t enable links negated) id small done fresh asked places edge d ws g f a same =
       function_alike c call site done d ws g a f same fn t enable links negated id small fresh asked.0 asked.1 asked.2 places
   kind_alike (Call instance enable taken bound given) id small done fresh asked places edge d ws g f a same =
-      call_alike c vs called call site calls instance enable taken bound given id small done fresh asked.0 asked.1 places d ws g f a same
+      call_alike c pou vs called call site calls instance enable taken bound given id small done fresh asked.0 asked.1 places d ws g f a same
 
   -- what feeds back is remembered on both sides
   feed_alike : (id : ℕ) → id < 2 ^ 64 → (outs : List Port) (fed : List Port) → Each (λ (o : Port). place_of c (wire_name id o.pin) ≡ Temporary o.ty) outs → Each (λ (o : Port). (place_of c (memory_name (AtOutput id o.pin)) ≡ Kept o.ty) × Contains outs o) fed
@@ -99,9 +99,9 @@ module _ (c : Here) (vs : List Variable) (called : Called) (call : Invoked) (sit
   element_alike e done own fresh asked d ws g f a same =
       alike_as _ _ (run_append (kind_text e.kind e.id) (map (feed_text e.id) e.fed) c call g f)
       (alike_then _ _ _ _ (kind_alike e.kind e.id own.small done fresh asked own.wires own.edge d ws g f a same)
-      (λ d' ws' g' f' a' same'. feed_alike e.id own.small (ports e.kind) e.fed own.wires own.fed done d' ws' g' f' a' same'))
+      (λ d' ws' g' f' a' same'. heard_alike (outputs_heard pou e.id 0 (ports e.kind) ws') _ ws' _ (feed_alike e.id own.small (ports e.kind) e.fed own.wires own.fed done d' ws' g' f' a' same')))
 
-  pub elements_alike : ElementsAlike c vs called call
+  pub elements_alike : ElementsAlike c pou vs called call
   elements_alike done [] asked d ws g f a same = both_end a same
   elements_alike done (e ∷ es) asked d ws g f a same =
       alike_as _ _ (run_append (element_text e) (elements_text es) c call g f)

@@ -18,7 +18,7 @@ use Rattle.plcx_meaning.specs.Execute as text
 use Rattle.plcx_meaning.specs.Templates.{memory_name, pou_text, unit_of}
 use Rattle.plcx_meaning.specs.Same.{SameValues, SameRuns, IsSame, Behaves, Agree, AgreeThroughout}
 use Rattle.plcx_meaning.specs.Fits.{PouFits, ProjectFits}
-use Rattle.plcx_meaning.proofs.Alike.{Alike, Nothing}
+use Rattle.plcx_meaning.proofs.Alike.{Alike, Nothing, unheard_agrees, unheard_alike}
 use Rattle.plcx_meaning.proofs.Lists.{each_at, each_from, each_weaker, each_flat_map}
 use Rattle.plcx_meaning.proofs.Names.{memory_own}
 use Rattle.plcx_meaning.proofs.Agree.{agree_set}
@@ -143,8 +143,10 @@ module _ (project : Project) (fits : ProjectFits project) (p : Pou) (there : Con
         → After time d g ((diagram_machine project p).scan turns time inputs d) ((text_machine (unit_of project) (pou_text p)).scan turns time inputs g)
     scan_alike time inputs good d g a =
         after_alike time d g _ _
+        (unheard_alike _ _
         (program_alike project fits time p there _ _
-        (agree_turns _ _ turns (inputs_agree inputs (each_weaker (IsInput (layout c)) _ inputs (λ i h. input_declared (layout c) (layout_outside c) i h) good) d g a)))
+        (unheard_agrees _ _ []
+        (agree_turns _ _ turns (inputs_agree inputs (each_weaker (IsInput (layout c)) _ inputs (λ i h. input_declared (layout c) (layout_outside c) i h) good) d g a)))))
 
     runs_alike : (es : List Event) (last : ℕ) → AreEvents (layout c) last es → (s : Side Diagram) (t : Side Run) → SidesAgree s t
         → SameRuns (diagram_machine project p) (text_machine (unit_of project) (pou_text p)) turns es s t

@@ -11,7 +11,7 @@ use Rattle.plcx_meaning.specs.Base.{Path, Site, is_true, Faulted, OutOfTurns, Ou
 use Rattle.plcx_meaning.specs.Layout.{variables_of, variable_named}
 use Rattle.plcx_meaning.specs.Standard.{called}
 use Rattle.plcx_meaning.specs.Diagram.{Link, Storing, Stored, Inverted, Set, Reset, Contacting, Open, Closed, RisingContact, FallingContact, Coiling, By, RisingCoil, FallingCoil, Input, InOut, Kind, Still, In, Out, Contact, Coil, Pass, Label, Jump, Return, Function, Call, Port, Element, Pou, Project, has_jump, block_named}
-use Rattle.plcx_meaning.specs.Evaluate.{Diagram, Wires, no_wires, set_leaf, store_by, contact_does, coil_does, enable_value, link_value, with_result, function_result, store_inputs, leaf_named, bind, Called, Setting, call_does, kind_does, feed, element_does, elements_do, straight, successor, at_network, jumping, body_does, with_standard, blocks_do, program_does}
+use Rattle.plcx_meaning.specs.Evaluate.{Diagram, Wires, no_wires, set_leaf, store_by, contact_does, coil_does, enable_value, link_value, with_result, function_result, store_inputs, leaf_named, bind, Called, Setting, call_does, kind_does, feed, element_does, elements_do, straight, successor, at_network, jumping, body_does, with_standard, place_named, blocks_do, program_does}
 use Rattle.plcx_meaning.proofs.Turns.{Lowers, lowers_end, lowers_stop, lowers_stuck, lowers_then, lowers_more, lowers_if, lowers_found, lowers_spend, spend_zero, spend_same, then_same}
 
 abbrev pub left : Diagram → ℕ
@@ -153,7 +153,7 @@ users_lower : (n time : ℕ) (project : Project) → CallLowers (blocks_do n tim
 users_lower zero time project type site d = lowers_stuck left _
 users_lower (suc n) time project type site d =
     lowers_found left _ (block_named type project) _ (λ p.
-    body_lower (record { variables = variables_of p.lists; site = site; called = with_standard time (blocks_do n time project) }) (standard_lower time _ (users_lower n time project)) p.networks d)
+    body_lower (record { pou = place_named p.name project; variables = variables_of p.lists; site = site; called = with_standard time (blocks_do n time project) }) (standard_lower time _ (users_lower n time project)) p.networks d)
 
 -- the blocks of a project, however deep they lie
 pub blocks_lower : (n time : ℕ) (project : Project) → CallLowers (with_standard time (blocks_do n time project))

@@ -30,6 +30,7 @@ pub mod Traced
 pub mod Turns
 pub mod Fuel
 pub mod FuelOfDiagrams
+pub mod Hearing
 mod ExamplesFit
 pub mod Stuck
 pub mod StuckBodies

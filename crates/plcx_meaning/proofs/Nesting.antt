@@ -10,7 +10,7 @@ use Rattle.plcx_meaning.specs.Base.{Site, top, Ended, then_do, found}
 use Rattle.plcx_meaning.specs.Layout.{Variable, variables_of, variable_named}
 use Rattle.plcx_meaning.specs.Standard.{called}
 use Rattle.plcx_meaning.specs.Diagram.{Element, Pou, Project, block_named}
-use Rattle.plcx_meaning.specs.Evaluate.{Diagram, Called, body_does, with_standard, blocks_do, program_does}
+use Rattle.plcx_meaning.specs.Evaluate.{Diagram, Called, body_does, with_standard, place_named, pou_does, blocks_do, program_does}
 use Rattle.plcx_meaning.specs.Execute.{Run, Frame, fresh, Here, Invoked, run_list, run_pou, blocks_run, program_runs, world_of}
 use Rattle.plcx_meaning.specs.Execute as text
 use Rattle.plcx_meaning.specs.Templates.{body_text, pou_text, unit_of}
@@ -29,13 +29,13 @@ use Rattle.plcx_meaning.proofs.Statics.{here}
 use Rattle.plcx_meaning.proofs.StaticsBodies.{ask_body}
 
 -- a body as an instance
-pub pou_alike : (c : Here) (vs : List Variable) (does : Called) (call : Invoked) (networks : List (List Element)) → ElementsAlike c vs does call → BodyAsked c vs networks
+pub pou_alike : (c : Here) (pou : ℕ) (vs : List Variable) (does : Called) (call : Invoked) (networks : List (List Element)) → ElementsAlike c pou vs does call → BodyAsked c vs networks
     → (d : Diagram) (g : Run) (f : Frame) → Agree d g
-    → Alike Nothing (body_does networks (record { variables = vs; site = c.site; called = does }) d) (then_do (run_list (body_text networks) c call g f) (λ h l. Ended h tt))
-pou_alike c vs does call networks elements asked d g f a =
-    alike_from _ _ (sym (then_ended (body_does networks (record { variables = vs; site = c.site; called = does }) d)))
-    (alike_then (body_does networks (record { variables = vs; site = c.site; called = does }) d) (run_list (body_text networks) c call g f) (λ d' u. Ended d' u) (λ h l. Ended h tt)
-    (body_alike c vs does call networks elements asked d g f a) (λ d' u g' f' a' same. both_end a' tt))
+    → Alike Nothing (body_does networks (record { pou = pou; variables = vs; site = c.site; called = does }) d) (then_do (run_list (body_text networks) c call g f) (λ h l. Ended h tt))
+pou_alike c pou vs does call networks elements asked d g f a =
+    alike_from _ _ (sym (then_ended (body_does networks (record { pou = pou; variables = vs; site = c.site; called = does }) d)))
+    (alike_then (body_does networks (record { pou = pou; variables = vs; site = c.site; called = does }) d) (run_list (body_text networks) c call g f) (λ d' u. Ended d' u) (λ h l. Ended h tt)
+    (body_alike c pou vs does call networks elements asked d g f a) (λ d' u g' f' a' same. both_end a' tt))
 
 -- the same of blocks that are no standard ones
 abbrev pub UsersAlike : List Variable → Called → Invoked → Type 0
@@ -60,9 +60,9 @@ module _ (project : Project) (fits : ProjectFits project) (time : ℕ) where
   -- a POU of the project, where the blocks of its instances do the same
   pub user_alike : (q : Pou) → Contains project q → (does : Called) (call : Invoked) → CallsAlike (variables_of q.lists) does call
       → (site : Site) → IsDeclared site → (d : Diagram) (g : Run) → Agree d g
-      → Alike Nothing (body_does q.networks (record { variables = variables_of q.lists; site = site; called = does }) d) (run_pou (pou_text q) (world_of (unit_of project)) call site g)
+      → Alike Nothing (pou_does project does q site d) (run_pou (pou_text q) (world_of (unit_of project)) call site g)
   user_alike q there does call calls site declared d g a =
-      pou_alike (here project q site) (variables_of q.lists) does call q.networks (elements_alike (here project q site) (variables_of q.lists) does call declared calls) (ask_body project q fits there site declared)
+      pou_alike (here project q site) (place_named q.name project) (variables_of q.lists) does call q.networks (elements_alike (here project q site) (place_named q.name project) (variables_of q.lists) does call declared calls) (ask_body project q fits there site declared)
       d g (fresh (variables_of (pou_text q).blocks)) a
 
   users_alike : (n : ℕ) (p : Pou) → Contains project p → Nests n project p → UsersAlike (variables_of p.lists) (blocks_do n time project) (blocks_run n time (unit_of project))
@@ -75,7 +75,7 @@ module _ (project : Project) (fits : ProjectFits project) (time : ℕ) where
       let within = block_there v.ty project q below.1 in
       let in_text : text.block_named v.ty (unit_of project) ≡ Some (pou_text q) = block_text v.ty project ∙ ap (option_map pou_text) below.1 in
       let calls = standard_alike time (variables_of q.lists) (blocks_do n time project) (blocks_run n time (unit_of project)) (users_alike n q within below.2) in
-      alike_from _ _ (ap (λ o. found o (λ r. body_does r.networks (record { variables = variables_of r.lists; site = site; called = with_standard time (blocks_do n time project) }) d)) below.1)
+      alike_from _ _ (ap (λ o. found o (λ r. pou_does project (with_standard time (blocks_do n time project)) r site d)) below.1)
       (alike_as _ _ (ap (λ o. found o (λ r. run_pou r (world_of (unit_of project)) (text.with_standard time (blocks_run n time (unit_of project))) site g)) in_text)
       (user_alike q within (with_standard time (blocks_do n time project)) (text.with_standard time (blocks_run n time (unit_of project))) calls site declared d g a))
 

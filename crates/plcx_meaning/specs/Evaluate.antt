@@ -1,5 +1,5 @@
 -- What a diagram does in a scan. There is no loop of dispatch in it, and no text.
-use Rattle.std.specs.Prelude.{ℕ, zero, suc, ◌+◌, ℤ, pos, Bool, true, false, ◌&&◌, List, [], ◌∷◌, Option, Some, None, nat_eq, map, length, codes, slice_get, if◌then◌else◌}
+use Rattle.std.specs.Prelude.{ℕ, zero, suc, ◌+◌, ℤ, pos, Bool, true, false, ◌&&◌, List, [], ◌∷◌, ◌++◌, Option, Some, None, nat_eq, map, length, codes, slice_get, if◌then◌else◌}
 use Rattle.std.specs.Str.{bytes_eq}
 use Rattle.std.specs.declared.result.Result.{Result}
 use Rattle.std.specs.declared.result.Result.TheVariants.{Ok, Err}
@@ -14,14 +14,23 @@ use Rattle.plcx_meaning.specs.Base.{Path, is_true, and_of, or_of, not_of, not_if
 use Rattle.plcx_meaning.specs.Tree as tree
 use Rattle.plcx_meaning.specs.Layout.{Variable, variables_of, variable_named, World, Scope, is_retained, layout, Restart, Warm, Cold, begun, restarted}
 use Rattle.plcx_meaning.specs.Standard.{called}
+use Rattle.plcx_meaning.specs.Run as run
 use Rattle.plcx_meaning.specs.Run.{put_inputs, Machine}
-use Rattle.plcx_meaning.specs.Diagram.{Source, Rail, Literal, Wire, Back, Link, Operand, Own, Output, Storing, Stored, Inverted, Set, Reset, Contacting, Open, Closed, RisingContact, FallingContact, Coiling, By, RisingCoil, FallingCoil, Enable, has_eno, eno_negated, Input, InOut, Output', Kind, Still, In, Out, Contact, Coil, Pass, Label, Jump, Return, Function, Call, Port, Element, Pou, Project, has_jump, target, block_named}
+use Rattle.plcx_meaning.specs.Diagram.{Source, Rail, Literal, Wire, Back, Link, Operand, Own, Output, Storing, Stored, Inverted, Set, Reset, Contacting, Open, Closed, RisingContact, FallingContact, Coiling, By, RisingCoil, FallingCoil, Enable, has_eno, eno_negated, Input, InOut, Output', Kind, Still, In, Out, Contact, Coil, Pass, Label, Jump, Return, Function, Call, Port, ports, Element, Pou, Project, has_jump, target, block_named}
 
--- what a scan changes: the leaves, the memories, and the turns that are left
+-- An output that a watch hears of: the place of the POU in the project, the element, the number of the wire among the element's, and its value.
+pub record Heard : Type 0 where
+  pub pou : ℕ
+  pub id : ℕ
+  pub number : ℕ
+  pub value : Value
+
+-- what a scan changes: the leaves, the memories, and the turns that are left; and what a watch has heard of it so far, in order
 pub record Diagram : Type 0 where
   pub store : Path → ℤ
   pub memories : Path → Memory → ℤ
   pub left : ℕ
+  pub heard : List Heard
 
 -- the outputs that are fixed, by the number of their element and the name of their pin
 abbrev pub Wires : Type 0
@@ -132,8 +141,9 @@ take_outputs (o ∷ os) id inner d ws = take_outputs os id inner d (fix ws id o.
 abbrev pub Called : Type 0
 Called = List ℕ → Site → Diagram → Outcome Diagram (Unit {0})
 
--- where a body is evaluated, and how the blocks of its instances are
+-- where a body is evaluated: the place of its POU in the project, its variables, its instance, and how the blocks of its instances are evaluated
 pub record Setting : Type 0 where
+  pub pou : ℕ
   pub variables : List Variable
   pub site : Site
   pub called : Called
@@ -180,8 +190,17 @@ abbrev pub feed : ℕ → List Port → Path → Wires → Diagram → Diagram
 feed id [] path ws d = d
 feed id (p ∷ ps) path ws d = feed id ps path ws (set_memory d path (AtOutput id p.pin) (ws id p.pin))
 
+-- the outputs of an element of this number, with those numbers
+abbrev pub outputs_heard : (pou id number : ℕ) → List Port → Wires → List Heard
+outputs_heard pou id n [] ws = []
+outputs_heard pou id n (p ∷ ps) ws = record { pou = pou; id = id; number = n; value = value p.ty (ws id p.pin) } ∷ outputs_heard pou id (n + 1) ps ws
+
+abbrev pub hear : List Heard → Diagram → Diagram
+hear hs d = record d { heard = d.heard ++ hs }
+
+-- a watch hears of an element once it has been evaluated to its end, of each output in the order of its wires
 abbrev pub element_does : Element → Setting → Diagram → Wires → Outcome Diagram Wires
-element_does e c d ws = then_do (kind_does e.kind e.id c d ws) (λ d' ws'. Ended (feed e.id e.fed c.site.path ws' d') ws')
+element_does e c d ws = then_do (kind_does e.kind e.id c d ws) (λ d' ws'. Ended (hear (outputs_heard c.pou e.id 0 (ports e.kind) ws') (feed e.id e.fed c.site.path ws' d')) ws')
 
 abbrev pub elements_do : List Element → Setting → Diagram → Wires → Outcome Diagram Wires
 elements_do [] c d ws = Ended d ws
@@ -227,14 +246,23 @@ body_does networks c d = if has_jump networks then jumping d.left networks c 0 d
 abbrev pub with_standard : ℕ → Called → Called
 with_standard time users type site d = elim (kind_named type) [ Some k ↦ Ended (record d { store = called k time site.path d.store }) tt | None ↦ users type site d ]
 
+-- the place of a POU in the project, from 0, by its name
+abbrev pub place_named : List ℕ → Project → ℕ
+place_named name [] = 0
+place_named name (p ∷ ps) = if bytes_eq (folded p.name) (folded name) then 0 else place_named name ps + 1
+
+-- a POU as the instance at a site
+abbrev pub pou_does : Project → Called → Pou → Site → Diagram → Outcome Diagram (Unit {0})
+pou_does project called p site d = body_does p.networks (record { pou = place_named p.name project; variables = variables_of p.lists; site = site; called = called }) d
+
 -- the function blocks of a project, with so many levels of them below
 abbrev pub blocks_do : ℕ → (time : ℕ) → Project → Called
 blocks_do zero time project type site d = Stuck
 blocks_do (suc n) time project type site d =
-    found (block_named type project) (λ p. body_does p.networks (record { variables = variables_of p.lists; site = site; called = with_standard time (blocks_do n time project) }) d)
+    found (block_named type project) (λ p. pou_does project (with_standard time (blocks_do n time project)) p site d)
 
 abbrev pub program_does : (time : ℕ) → Project → Pou → Diagram → Outcome Diagram (Unit {0})
-program_does time project p d = body_does p.networks (record { variables = variables_of p.lists; site = top; called = with_standard time (blocks_do 16 time project) }) d
+program_does time project p d = pou_does project (with_standard time (blocks_do 16 time project)) p top d
 
 abbrev pub world_of : Project → World
 world_of project key = elim (block_named key project) [ Some p ↦ p.lists | None ↦ [] ]
@@ -247,12 +275,22 @@ abbrev pub restarted_memories : Scope → Restart → (Path → Memory → ℤ) 
 restarted_memories c Warm m p k = if is_retained c p then m p k else pos 0
 restarted_memories c Cold m p k = pos 0
 
+-- one scan of a program: the inputs are written, and a watch has heard nothing yet
+abbrev pub scan_does : Project → Pou → (turns time : ℕ) → List run.Input → Diagram → Outcome Diagram (Unit {0})
+scan_does project p turns time inputs d = program_does time project p (record { store = put_inputs inputs d.store; memories = d.memories; left = turns; heard = [] })
+
+-- what was heard of a scan is not kept behind it
+abbrev pub unheard : Outcome Diagram (Unit {0}) → Outcome Diagram (Unit {0})
+unheard (Ended d u) = Ended (record d { heard = [] }) u
+unheard (Stopped s d) = Stopped s (record d { heard = [] })
+unheard Stuck = Stuck
+
 -- a program as a side
 abbrev pub diagram_machine : Project → Pou → Machine Diagram
 diagram_machine project p = record {
   layout = layout (scope_of project p);
-  begin = λ kept. record { store = begun (scope_of project p) kept; memories = λ q k. pos 0; left = 0 };
-  scan = λ turns time inputs d. program_does time project p (record { store = put_inputs inputs d.store; memories = d.memories; left = turns });
-  restart = λ r d. record { store = restarted (scope_of project p) r d.store; memories = restarted_memories (scope_of project p) r d.memories; left = 0 };
+  begin = λ kept. record { store = begun (scope_of project p) kept; memories = λ q k. pos 0; left = 0; heard = [] };
+  scan = λ turns time inputs d. unheard (scan_does project p turns time inputs d);
+  restart = λ r d. record { store = restarted (scope_of project p) r d.store; memories = restarted_memories (scope_of project p) r d.memories; left = 0; heard = [] };
   value = λ d q. d.store q;
 }

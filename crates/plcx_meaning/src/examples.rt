@@ -14,6 +14,7 @@ ghost use Rattle.plcx_meaning.specs.ExampleBlocks.{delay, delay_events, delay_tr
 ghost use Rattle.plcx_meaning.specs.ExamplePins.{edges, edges_events, edges_trace, enabled_block, enabled_block_events, enabled_block_statements, enabled_block_trace, negated_pins, negated_pins_events, negated_pins_trace, next, returning, returning_events, returning_trace};
 ghost use Rattle.plcx_meaning.specs.ExampleStarts.{both_restarts, idle, idle_trace, one_scan_at_start, paths, seven, seven_trace, spelled_so, spellings};
 ghost use Rattle.plcx_meaning.specs.ExampleInOuts.{binding, binding_trace, binds, binds_statements, handing_on, handing_on_trace, hands_on, one_variable_twice, sharing, sharing_trace};
+ghost use Rattle.plcx_meaning.specs.ExampleWatch.{cut_loop_heard, enabled_block_heard, fault_and_restart_events, fault_and_restart_heard, heard_from_start, motor_heard, watched_loop, whole_loop_heard};
 
 /// Contacts and coils: a motor that holds itself, networks in the order of the document, and a coil that writes the variable of a contact.
 pub fn examples_of_rungs()
@@ -120,4 +121,14 @@ pub fn examples_that_fit()
     ensures counting { ProjectFits (counting ∷ []) }
     ensures saturating { IsRetainedState (diagram_machine (saturating ∷ []) saturating).layout (λ p. pos 0) }
     ensures idle { IsRetainedState (diagram_machine (idle ∷ []) idle).layout (initial_in (diagram_machine (idle ∷ []) idle).layout) }
+{}
+
+/// What a watch hears: each output of an element that was evaluated to its end, those of a called block before those of its call.
+/// What was heard before a fault or a cut stays heard, and the call that it came in isn't.
+pub fn examples_of_watches()
+    ensures motor { heard_from_start (motor ∷ []) motor 1000 motor_events ≡ motor_heard }
+    ensures enabled_block { heard_from_start (enabled_block ∷ next ∷ []) enabled_block 1000 enabled_block_events ≡ enabled_block_heard }
+    ensures fault_and_restart { heard_from_start (division ∷ fault_in_a_block ∷ []) fault_in_a_block 1000 fault_and_restart_events ≡ fault_and_restart_heard }
+    ensures whole_loop { heard_from_start (watched_loop ∷ loop_block ∷ []) watched_loop 15 one_scan ≡ whole_loop_heard }
+    ensures cut_loop { heard_from_start (watched_loop ∷ loop_block ∷ []) watched_loop 5 one_scan ≡ cut_loop_heard }
 {}

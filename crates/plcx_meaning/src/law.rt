@@ -6,7 +6,8 @@ ghost use Rattle.plcx_meaning.specs.Layout.{Variable, Scope, layout, IsSpelled, 
 ghost use Rattle.plcx_meaning.specs.Traces.{trace_from, diagram_trace, text_trace};
 ghost use Rattle.plcx_meaning.specs.Run.{Input, Event, Scan, Machine, Side, after, last_after, begin_side, AreEvents, CanFollow};
 ghost use Rattle.plcx_meaning.specs.Diagram.{Element, Pou, Project, program_named};
-ghost use Rattle.plcx_meaning.specs.Evaluate.{Diagram, no_wires, elements_do, successor, at_network, jumping, Setting, with_standard, blocks_do, program_does, diagram_machine};
+ghost use Rattle.plcx_meaning.specs.Evaluate.{Heard, Diagram, Wires, no_wires, elements_do, successor, at_network, jumping, Setting, with_standard, blocks_do, program_does, diagram_machine};
+ghost use Rattle.plcx_meaning.specs.Watch.{earlier, heard_earlier};
 ghost use Rattle.plcx_meaning.specs.Execute.{Run, Frame, Here, with_truth, value_of, run_statement, run_statements, run_list, blocks_run, program_runs, text_machine};
 ghost use Rattle.plcx_meaning.specs.Execute as text;
 ghost use Rattle.plcx_meaning.specs.Templates.{pou_text, unit_of};
@@ -57,4 +58,11 @@ pub fn outside_leaves()
 /// Each leaf is spelled as its names are declared: without case that is its path.
 pub fn spelled_leaves()
     ensures { (c : Scope) → Each IsSpelled (layout c) }
+{}
+
+/// What a watch hears changes nothing else: a piece of a scan does the same whatever was heard before it, and adds to that what it tells.
+pub fn hearing()
+    ensures program { (time : ℕ) (project : Project) (p : Pou) (hs : List Heard) (d : Diagram) → program_does time project p (earlier hs d) ≡ heard_earlier hs (program_does time project p d) }
+    ensures blocks { (n time : ℕ) (project : Project) (type : List ℕ) (site : Site) (hs : List Heard) (d : Diagram) → with_standard time (blocks_do n time project) type site (earlier hs d) ≡ heard_earlier hs (with_standard time (blocks_do n time project) type site d) }
+    ensures elements { (n time : ℕ) (project : Project) (c : Setting) → c.called ≡ with_standard time (blocks_do n time project) → (es : List Element) (hs : List Heard) (d : Diagram) (ws : Wires) → elements_do es c (earlier hs d) ws ≡ heard_earlier hs (elements_do es c d ws) }
 {}
