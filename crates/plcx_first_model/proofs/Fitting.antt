@@ -18,7 +18,7 @@ use Rattle.plcx_meaning.specs.Diagram as diagram
 use Rattle.plcx_meaning.specs.Diagram.{Port, port, links_of, link_reads_back}
 use Rattle.plcx_meaning.specs.Evaluate.{scope_of}
 use Rattle.plcx_meaning.specs.Address.{AddressFits}
-use Rattle.plcx_meaning.specs.Fits.{IsGoodName, IsVariable, CanBeWritten, variable_parts, parts, Standing, LinkFits, KindFits, fixed_by, is_fresh, ElementsFit, PortsFit, VariableFits, PouFits, Nests, ProjectFits}
+use Rattle.plcx_meaning.specs.Fits.{IsGoodName, IsVariable, CanBeWritten, variable_parts, parts, Standing, LinkFits, KindFits, fixed_by, is_fresh, ElementsFit, PortsFit, VariableFits, PouFits, PouNests, ProjectFits}
 use Rattle.plcx_first_model.specs.declared.project.Kind.{Kind}
 use Rattle.plcx_first_model.specs.declared.project.Kind.TheVariants as kind
 use Rattle.plcx_first_model.specs.declared.project.Connection.{Connection}
@@ -175,7 +175,7 @@ reads_nothing : (p : Pou) (id : ℕ) (pin : List ℕ) (k : Kind) → list_any (l
 reads_nothing p id pin (kind.In text) = refl
 reads_nothing p id pin (kind.Out text input) = refl
 
-nothing_fed : (p : Pou) (id : ℕ) (pin : List ℕ) (es : List Element) → list_any (λ (e : diagram.Element). list_any (link_reads_back id pin) (links_of e.kind)) (map (element_of p) es) ≡ false
+nothing_fed : (p : Pou) (id : ℕ) (pin : List ℕ) (es : List Element) → list_any (λ (e : diagram.DiagramElement). list_any (link_reads_back id pin) (links_of e.kind)) (map (element_of p) es) ≡ false
 nothing_fed p id pin [] = refl
 nothing_fed p id pin (e ∷ es) = or_from _ _ (reads_nothing p id pin e.kind) (nothing_fed p id pin es)
 
@@ -196,11 +196,11 @@ no_parts : (inner : diagram.Pou → ℕ) (project : diagram.Project) (vs : List 
 no_parts inner project [] = refl
 no_parts inner project (v ∷ vs) = sum_by-cons (variable_parts inner project) (variable_of v) (map variable_of vs) ∙ ap (λ n. 0 + n) (no_parts inner project vs)
 
-one_each : (p : Pou) (es : List Element) → sum_by (λ (e : diagram.Element). suc (length e.fed)) (map (element_of p) es) ≡ length es
+one_each : (p : Pou) (es : List Element) → sum_by (λ (e : diagram.DiagramElement). suc (length e.fed)) (map (element_of p) es) ≡ length es
 one_each p [] = refl
 one_each p (e ∷ es) =
-    let step : sum_by (λ (f : diagram.Element). suc (length f.fed)) (map (element_of p) (e ∷ es)) ≡ 1 + sum_by (λ (f : diagram.Element). suc (length f.fed)) (map (element_of p) es) =
-    sum_by-cons (λ (f : diagram.Element). suc (length f.fed)) (element_of p e) (map (element_of p) es) in
+    let step : sum_by (λ (f : diagram.DiagramElement). suc (length f.fed)) (map (element_of p) (e ∷ es)) ≡ 1 + sum_by (λ (f : diagram.DiagramElement). suc (length f.fed)) (map (element_of p) es) =
+    sum_by-cons (λ (f : diagram.DiagramElement). suc (length f.fed)) (element_of p e) (map (element_of p) es) in
     omega (arith, one_each p es, step)
 
 few_leaves : (p : Pou) (ns : List (List Element)) → length p.variables ≤ 4096 → length (layout (scope_of (diagram_of p ns ∷ []) (diagram_of p ns))) ≤ 262144
@@ -242,10 +242,10 @@ diagram_fits p ns sound body networks =
       addresses = (no_addresses p.variables, tt);
     }
 
-diagram_nests : (p : Pou) (ns : List (List Element)) → Nests 16 (diagram_of p ns ∷ []) (diagram_of p ns)
+diagram_nests : (p : Pou) (ns : List (List Element)) → PouNests 16 (diagram_of p ns ∷ []) (diagram_of p ns)
 diagram_nests p ns x v found none standard =
     let one = declared_is_one p.variables x v found in
-    absurd {A = (q : diagram.Pou) × (diagram.block_named v.ty (diagram_of p ns ∷ []) ≡ Some q) × Nests 15 (diagram_of p ns ∷ []) q} (let no : Some ty.Bool ≡ None = ap (λ (u : layout.Variable). type_named u.ty) one.1 ∙ none in cc)
+    absurd {A = (q : diagram.Pou) × (diagram.block_named v.ty (diagram_of p ns ∷ []) ≡ Some q) × PouNests 15 (diagram_of p ns ∷ []) q} (let no : Some ty.Bool ≡ None = ap (λ (u : layout.Variable). type_named u.ty) one.1 ∙ none in cc)
 
 pub project_fits : (p : Pou) (ns : List (List Element)) → IsSound p → BodyIsFirst p → AreNetworks p ns → ProjectFits (diagram_of p ns ∷ [])
 project_fits p ns sound body networks = record { names = refl; pous = (diagram_fits p ns sound body networks, tt); nests = (diagram_nests p ns, tt) }

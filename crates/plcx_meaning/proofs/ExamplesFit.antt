@@ -12,8 +12,8 @@ use Rattle.plcx_std.specs.Kind.{kind_named}
 use Rattle.plcx_meaning.specs.Base.{Each, are_distinct}
 use Rattle.plcx_meaning.specs.Tree.{Local, Constant, Temp}
 use Rattle.plcx_meaning.specs.Layout.{initial_in, IsRetainedState, Variable, variables_of, variable_named}
-use Rattle.plcx_meaning.specs.Diagram.{Source, Port, ports, is_fed, Element, Pou, Project, block_named}
-use Rattle.plcx_meaning.specs.Fits.{IsGoodName, Standing, SourceFits, LinkFits, EnableFits, IsPin, PortsFit, is_known, printed_type, VariableFits, PouFits, Nests, ProjectFits}
+use Rattle.plcx_meaning.specs.Diagram.{Source, Port, ports, is_fed, DiagramElement, Pou, Project, block_named}
+use Rattle.plcx_meaning.specs.Fits.{IsGoodName, Standing, SourceFits, LinkFits, EnableFits, IsPin, PortsFit, project_knows, printed_type, VariableFits, PouFits, PouNests, ProjectFits}
 use Rattle.plcx_meaning.specs.Pieces.{link, always}
 use Rattle.plcx_meaning.specs.ExampleRungs.{motor, motor_events}
 use Rattle.plcx_meaning.specs.ExampleFeedback.{counting, saturating}
@@ -33,15 +33,15 @@ of_named P x (w ∷ vs) each v e = picked P (bytes_eq (folded w.name) x) w v (va
 
 -- a type that is elementary nests nothing
 record NestsBy (n : ℕ) (project : Project) (v : Variable) : Type 0 where
-  below : type_named v.ty ≡ None → kind_named v.ty ≡ None → (q : Pou) × (block_named v.ty project ≡ Some q) × Nests n project q
+  below : type_named v.ty ≡ None → kind_named v.ty ≡ None → (q : Pou) × (block_named v.ty project ≡ Some q) × PouNests n project q
 
-nests_by : (n : ℕ) (project : Project) (p : Pou) → Each (NestsBy n project) (variables_of p.lists) → Nests (suc n) project p
+nests_by : (n : ℕ) (project : Project) (p : Pou) → Each (NestsBy n project) (variables_of p.lists) → PouNests (suc n) project p
 nests_by n project p each x v named = (of_named (NestsBy n project) x (variables_of p.lists) each v named).below
 
 elementary : (n : ℕ) (project : Project) (t : Ty) (v : Variable) → type_named v.ty ≡ Some t → NestsBy n project v
 elementary n project t v typed = record { below = λ none. absurd (let h : Some t ≡ None = sym typed ∙ none in cc) }
 
-plain : (project : Project) (v : Variable) → IsGoodName v.name → v.class ≢ Temp → is_known project v.ty ≡ true → v.ty ≡ printed_type project v.ty → v.initial ≡ None → (type_named v.ty ≡ None → (v.class ≡ Local) × (v.mark ≢ Constant)) → VariableFits project v
+plain : (project : Project) (v : Variable) → IsGoodName v.name → v.class ≢ Temp → project_knows project v.ty ≡ true → v.ty ≡ printed_type project v.ty → v.initial ≡ None → (type_named v.ty ≡ None → (v.class ≡ Local) × (v.mark ≢ Constant)) → VariableFits project v
 plain project v good class known spelled none instance =
     record { name = good; class = class; known = known; spelled = spelled; initial = λ value e. absurd (let h : None ≡ Some value = sym none ∙ e in cc); instance = instance }
 
@@ -59,7 +59,7 @@ pins_fit (o ∷ os) h =
     ((own.0, leb-true (length o.pin) 64 own.1), pins_fit os parts.1)
 
 -- an element with these outputs
-ports_fit : (p : Pou) (e : Element) → e.id < 2 ^ 64 → are_distinct (map (λ (o : Port). folded o.pin) (ports e.kind)) ≡ true → e.fed ≡ filter (is_fed p e.id) (ports e.kind) → list_all is_pin (ports e.kind) ≡ true → PortsFit p e
+ports_fit : (p : Pou) (e : DiagramElement) → e.id < 2 ^ 64 → are_distinct (map (λ (o : Port). folded o.pin) (ports e.kind)) ≡ true → e.fed ≡ filter (is_fed p e.id) (ports e.kind) → list_all is_pin (ports e.kind) ≡ true → PortsFit p e
 ports_fit p e small distinct fed named = record {
   small = small;
   pins = distinct;
@@ -277,7 +277,7 @@ nested_fits = record {
   );
 }
 
-loop_nests : (n : ℕ) → Nests (suc n) both loop_block
+loop_nests : (n : ℕ) → PouNests (suc n) both loop_block
 loop_nests n = nests_by n both loop_block (elementary _ _ ty.Int _ refl, tt)
 
 pub nested_project_fits : ProjectFits (nested_loop ∷ loop_block ∷ [])

@@ -5,7 +5,7 @@ use Rattle.std.specs.Str.{bytes_eq}
 use Rattle.std.proofs.lemmas.Bool.{or_parts, or_from}
 use Rattle.plcx_types.specs.Name.{folded}
 use Rattle.plcx_meaning.specs.Base.{Each, are_distinct}
-use Rattle.plcx_meaning.specs.Diagram.{Port, ports, is_fed, Element, Pou}
+use Rattle.plcx_meaning.specs.Diagram.{Port, ports, is_fed, DiagramElement, Pou}
 use Rattle.plcx_meaning.specs.Fits.{PortsFit}
 use Rattle.plcx_meaning.proofs.Lists.{contains_first, contains_later, each_weaker, IsNew, distinct_parts, distinct_from}
 
@@ -41,8 +41,8 @@ distinct_passing test (o ∷ os) h =
     by true new rest = distinct_from (folded o.pin) (names (filter test os)) new rest
     by false new rest = rest
 
-pub fed_ports : (p : Pou) (e : Element) → PortsFit p e → Each (Contains (ports e.kind)) e.fed
+pub fed_ports : (p : Pou) (e : DiagramElement) → PortsFit p e → Each (Contains (ports e.kind)) e.fed
 fed_ports p e fit = subst (Each (Contains (ports e.kind))) (sym fit.fed) (passing_among (is_fed p e.id) (ports e.kind))
 
-pub fed_distinct : (p : Pou) (e : Element) → PortsFit p e → are_distinct (map (λ (o : Port). folded o.pin) e.fed) ≡ true
+pub fed_distinct : (p : Pou) (e : DiagramElement) → PortsFit p e → are_distinct (map (λ (o : Port). folded o.pin) e.fed) ≡ true
 fed_distinct p e fit = ap (λ os. are_distinct (names os)) fit.fed ∙ distinct_passing (is_fed p e.id) (ports e.kind) fit.pins

@@ -10,7 +10,7 @@ use Rattle.plcx_types.specs.Reserved.{is_own}
 use Rattle.plcx_meaning.specs.Base.{Memory, AtEdge, AtOutput, same_memory, Each, are_distinct, all_differ}
 use Rattle.plcx_meaning.specs.Tree.{Class, Local, Temp, Mark, Plain, Declaration}
 use Rattle.plcx_meaning.specs.Layout.{Variable, variable, variables_of}
-use Rattle.plcx_meaning.specs.Diagram.{Port, ports, has_edge, Element, has_jump, Pou, Project}
+use Rattle.plcx_meaning.specs.Diagram.{Port, ports, has_edge, DiagramElement, has_jump, Pou, Project}
 use Rattle.plcx_meaning.specs.Templates.{wire_name, memory_name, counter_name, own, element_memories, element_wires, counter, pou_text}
 use Rattle.plcx_meaning.specs.Fits.{PortsFit, PouFits}
 use Rattle.plcx_meaning.proofs.Fed.{fed_distinct}
@@ -93,7 +93,7 @@ names_distinct id small (o ∷ fed) h =
     let parts = distinct_parts (folded o.pin) (map (λ (q : Port). folded q.pin) fed) h in
     distinct_from (folded (memory_name (AtOutput id o.pin))) (names (fed_memories id fed)) (memory_new (AtOutput id o.pin) small id fed (pins_apart id o.pin fed parts.0)) (names_distinct id small fed parts.1)
 
-memories_distinct : (p : Pou) (e : Element) → PortsFit p e → are_distinct (names (element_memories e)) ≡ true
+memories_distinct : (p : Pou) (e : DiagramElement) → PortsFit p e → are_distinct (names (element_memories e)) ≡ true
 memories_distinct p e fit = by (has_edge e.kind)
   where
     by : (b : Bool) → are_distinct (names (edge_memory b e.id ++ fed_memories e.id e.fed)) ≡ true
@@ -113,7 +113,7 @@ other_memory (AtOutput i p) (AtEdge j) h = refl
 other_memory (AtOutput i p) (AtOutput j q) h = false_and (nat_eq i j) (bytes_eq (folded p) (folded q)) h
 
 -- what holds of each memory of an element holds of each of its declarations
-memories_each : (P : Declaration → Type 0) (e : Element) → ((k : Memory) → number_of k ≡ e.id → (t : _) → P (own (memory_name k) t)) → Each P (element_memories e)
+memories_each : (P : Declaration → Type 0) (e : DiagramElement) → ((k : Memory) → number_of k ≡ e.id → (t : _) → P (own (memory_name k) t)) → Each P (element_memories e)
 memories_each P e h = each_append P (edge_memory (has_edge e.kind) e.id) (fed_memories e.id e.fed) (by (has_edge e.kind)) (each_map P (λ (o : Port). own (memory_name (AtOutput e.id o.pin)) o.ty) e.fed (each_from _ e.fed (λ o there. h (AtOutput e.id o.pin) refl o.ty)))
   where
     by : (b : Bool) → Each P (edge_memory b e.id)
@@ -124,7 +124,7 @@ small_memory : (k : Memory) (id : ℕ) → number_of k ≡ id → id < 2 ^ 64 �
 small_memory (AtEdge i) id h small = subst (λ n. n < 2 ^ 64) (sym h) small
 small_memory (AtOutput i p) id h small = subst (λ n. n < 2 ^ 64) (sym h) small
 
-memories_apart : (p : Pou) (e d : Element) → PortsFit p e → nat_eq e.id d.id ≡ false → Apart (names (element_memories e)) (names (element_memories d))
+memories_apart : (p : Pou) (e d : DiagramElement) → PortsFit p e → nat_eq e.id d.id ≡ false → Apart (names (element_memories e)) (names (element_memories d))
 memories_apart p e d fit other =
     each_map (λ x. IsNew x (names (element_memories d))) (λ (a : Declaration). folded a.name) (element_memories e)
     (memories_each _ e (λ j same t. new_among (folded (memory_name j)) (element_memories d)
@@ -141,25 +141,25 @@ wires_of id small (o ∷ os) h =
     let parts = distinct_parts (folded o.pin) (map (λ (q : Port). folded q.pin) os) h in
     distinct_from (folded (wire_name id o.pin)) (names (map (λ (q : Port). own (wire_name id q.pin) q.ty) os)) (wire_new id small o.pin id os (pins_apart id o.pin os parts.0)) (wires_of id small os parts.1)
 
-wires_distinct : (p : Pou) (e : Element) → PortsFit p e → are_distinct (names (element_wires e)) ≡ true
+wires_distinct : (p : Pou) (e : DiagramElement) → PortsFit p e → are_distinct (names (element_wires e)) ≡ true
 wires_distinct p e fit = wires_of e.id fit.small (ports e.kind) fit.pins
 
-wires_apart : (p : Pou) (e d : Element) → PortsFit p e → nat_eq e.id d.id ≡ false → Apart (names (element_wires e)) (names (element_wires d))
+wires_apart : (p : Pou) (e d : DiagramElement) → PortsFit p e → nat_eq e.id d.id ≡ false → Apart (names (element_wires e)) (names (element_wires d))
 wires_apart p e d fit other =
     each_map (λ x. IsNew x (names (element_wires d))) (λ (a : Declaration). folded a.name) (element_wires e)
     (each_map _ (λ (o : Port). own (wire_name e.id o.pin) o.ty) (ports e.kind)
     (each_from _ (ports e.kind) (λ o there. wire_new e.id fit.small o.pin d.id (ports d.kind) (each_from _ (ports d.kind) (λ q h. false_and (nat_eq e.id d.id) _ other)))))
 
-module _ (p : Pou) (ports_fit : Each (PortsFit p) p.elements) (ids : all_differ (map (λ (e : Element). e.id) p.elements) ≡ true) where
+module _ (p : Pou) (ports_fit : Each (PortsFit p) p.elements) (ids : all_differ (map (λ (e : DiagramElement). e.id) p.elements) ≡ true) where
   all_memories : are_distinct (names (flat_map element_memories p.elements)) ≡ true
   all_memories =
       ap are_distinct (map_flat (λ (d : Declaration). folded d.name) element_memories p.elements)
-      ∙ distinct_all (λ e. names (element_memories e)) (λ (e : Element). e.id) (PortsFit p) (memories_apart p) p.elements ports_fit (each_weaker (PortsFit p) _ p.elements (memories_distinct p) ports_fit) ids
+      ∙ distinct_all (λ e. names (element_memories e)) (λ (e : DiagramElement). e.id) (PortsFit p) (memories_apart p) p.elements ports_fit (each_weaker (PortsFit p) _ p.elements (memories_distinct p) ports_fit) ids
 
   all_wires : are_distinct (names (flat_map element_wires p.elements)) ≡ true
   all_wires =
       ap are_distinct (map_flat (λ (d : Declaration). folded d.name) element_wires p.elements)
-      ∙ distinct_all (λ e. names (element_wires e)) (λ (e : Element). e.id) (PortsFit p) (wires_apart p) p.elements ports_fit (each_weaker (PortsFit p) _ p.elements (wires_distinct p) ports_fit) ids
+      ∙ distinct_all (λ e. names (element_wires e)) (λ (e : DiagramElement). e.id) (PortsFit p) (wires_apart p) p.elements ports_fit (each_weaker (PortsFit p) _ p.elements (wires_distinct p) ports_fit) ids
 
   -- wires, and behind them the counter
   abbrev passing : List Declaration

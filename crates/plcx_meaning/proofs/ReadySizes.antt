@@ -18,7 +18,7 @@ use Rattle.plcx_meaning.specs.Base.{AtEdge, AtOutput}
 use Rattle.plcx_meaning.specs.Tree.{Local, Temp, Plain, Declaration, Block, PouText}
 use Rattle.plcx_meaning.specs.Standard.{pin_blocks}
 use Rattle.plcx_meaning.specs.Layout.{Variable, variable, variables_of, World, Meaning, Elementary, Composed, composed, meaning, Scope, Spelling, Leaf, leaf_of, is_kept, variable_leaves, leaves}
-use Rattle.plcx_meaning.specs.Diagram.{Port, has_edge, is_program, Element, Pou, Project}
+use Rattle.plcx_meaning.specs.Diagram.{Port, has_edge, is_program, DiagramElement, Pou, Project}
 use Rattle.plcx_meaning.specs.Diagram as diagram
 use Rattle.plcx_meaning.specs.Evaluate as evaluate
 use Rattle.plcx_meaning.specs.Execute as text
@@ -49,7 +49,7 @@ fed_size inner world id (o ∷ fed) =
     let whole = sum_by-cons (variable_size inner world) (variable Local Plain (own (memory_name (AtOutput id o.pin)) o.ty)) (map (variable Local Plain) (map (λ (q : Port). own (memory_name (AtOutput id q.pin)) q.ty) fed)) in
     omega arith
 
-memories_size : (inner : List Variable → ℕ) (world : World) (e : Element) → sum_by (variable_size inner world) (map (variable Local Plain) (element_memories e)) ≤ suc (length e.fed)
+memories_size : (inner : List Variable → ℕ) (world : World) (e : DiagramElement) → sum_by (variable_size inner world) (map (variable Local Plain) (element_memories e)) ≤ suc (length e.fed)
 memories_size inner world e = by (has_edge e.kind)
   where
     feds : List Declaration
@@ -63,16 +63,16 @@ memories_size inner world e = by (has_edge e.kind)
         omega arith
     by false = let rest = fed_size inner world e.id e.fed in omega arith
 
-all_memories : (inner : List Variable → ℕ) (world : World) (es : List Element) → sum_by (variable_size inner world) (map (variable Local Plain) (flat_map element_memories es)) ≤ sum_by (λ (e : Element). suc (length e.fed)) es
+all_memories : (inner : List Variable → ℕ) (world : World) (es : List DiagramElement) → sum_by (variable_size inner world) (map (variable Local Plain) (flat_map element_memories es)) ≤ sum_by (λ (e : DiagramElement). suc (length e.fed)) es
 all_memories inner world [] = omega arith
 all_memories inner world (e ∷ es) =
     let here = memories_size inner world e in
     let rest = all_memories inner world es in
     let left = ap (sum_by (variable_size inner world)) (map_append (variable Local Plain) (element_memories e) (flat_map element_memories es)) ∙ sum_by-append (variable_size inner world) (map (variable Local Plain) (element_memories e)) (map (variable Local Plain) (flat_map element_memories es)) in
-    let right = sum_by-cons (λ (x : Element). suc (length x.fed)) e es in
+    let right = sum_by-cons (λ (x : DiagramElement). suc (length x.fed)) e es in
     omega arith
 
-own_size : (inner : List Variable → ℕ) (world : World) (p : Pou) → sum_by (variable_size inner world) (own_variables p) ≤ sum_by (λ (e : Element). suc (length e.fed)) p.elements
+own_size : (inner : List Variable → ℕ) (world : World) (p : Pou) → sum_by (variable_size inner world) (own_variables p) ≤ sum_by (λ (e : DiagramElement). suc (length e.fed)) p.elements
 own_size inner world p =
     let memories = all_memories inner world p.elements in
     let passing = passing_size inner world (flat_map element_wires p.elements ++ counter p.networks) in

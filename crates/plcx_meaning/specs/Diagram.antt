@@ -52,39 +52,39 @@ pub record Enable : Type 0 where
   pub eno : Option Bool
 
 -- a connected input of an instance, by its declared name
-pub record Input : Type 0 where
+pub record InputPin : Type 0 where
   pub name : List ℕ
   pub link : Link
 
 -- an in-out of an instance, and the variable that it stands for
-pub record InOut : Type 0 where
+pub record InOutPin : Type 0 where
   pub name : List ℕ
   pub variable : List ℕ
 
 -- a listed output of an instance
-pub record Output' : Type 0 where
+pub record OutputPin : Type 0 where
   pub name : List ℕ
   pub ty : Ty
   pub negated : Bool
 
-pub data Kind : Type 0 where
+pub data ElementKind : Type 0 where
   -- a rail, a comment or a vendor element, or an inVariable with a literal: it does nothing
-  Still : Kind
+  Still : ElementKind
   -- an inVariable with what it reads
-  In : Ty → (negated : Bool) → Operand → Kind
-  Out : Storing → List ℕ → Link → Kind
-  Contact : Contacting → Operand → Link → Kind
-  Coil : Coiling → List ℕ → Link → Kind
+  In : Ty → (negated : Bool) → Operand → ElementKind
+  Out : Storing → List ℕ → Link → ElementKind
+  Contact : Contacting → Operand → Link → ElementKind
+  Coil : Coiling → List ℕ → Link → ElementKind
   -- a connector or a continuation
-  Pass : Link → Kind
-  Label : List ℕ → Kind
-  Jump : (label : List ℕ) → Link → Kind
-  Return : Link → Kind
+  Pass : Link → ElementKind
+  Label : List ℕ → ElementKind
+  Jump : (label : List ℕ) → Link → ElementKind
+  Return : Link → ElementKind
   -- a function at the type of its group, a conversion at the type that it converts from; its inputs go in the order of the signature, and negated is
   -- said of OUT
-  Function : Func → Ty → Enable → List Link → (negated : Bool) → Kind
+  Function : Func → Ty → Enable → List Link → (negated : Bool) → ElementKind
   -- an instance of a block, with its connected inputs, its in-outs and its listed outputs, each in the listed order
-  Call : (instance : List ℕ) → Enable → List Input → List InOut → List Output' → Kind
+  Call : (instance : List ℕ) → Enable → List InputPin → List InOutPin → List OutputPin → ElementKind
 
 -- an output of an element, with its type; the name of its pin is empty but at a block
 pub record Port : Type 0 where
@@ -92,9 +92,9 @@ pub record Port : Type 0 where
   pub ty : Ty
 
 -- an element by its number, and those of its ports that feed back, which are those that is_fed says, in the order of the ports
-pub record Element : Type 0 where
+pub record DiagramElement : Type 0 where
   pub id : ℕ
-  pub kind : Kind
+  pub kind : ElementKind
   pub fed : List Port
 
 -- a POU; its elements stand in the order of the file, and those that take part once more in networks, in the order of their evaluation
@@ -102,8 +102,8 @@ pub record Pou : Type 0 where
   pub kind : PouKind
   pub name : List ℕ
   pub lists : List Block
-  pub elements : List Element
-  pub networks : List (List Element)
+  pub elements : List DiagramElement
+  pub networks : List (List DiagramElement)
 
 abbrev pub Project : Type 0
 Project = List Pou
@@ -121,7 +121,7 @@ eno_negated e = elim e.eno [ Some negated ↦ negated | None ↦ false ]
 abbrev pub eno_ports : Enable → List Port
 eno_ports e = if has_eno e then port (codes "ENO") ty.Bool ∷ [] else []
 
-abbrev pub output_ports : List Output' → List Port
+abbrev pub output_ports : List OutputPin → List Port
 output_ports [] = []
 output_ports (o ∷ os) = port o.name o.ty ∷ output_ports os
 
@@ -129,7 +129,7 @@ abbrev pub enable_links : Enable → List Link
 enable_links e = elim e.en [ Some link ↦ link ∷ [] | None ↦ [] ]
 
 -- the outputs of an element, which are its wires, in their order
-abbrev pub ports : Kind → List Port
+abbrev pub ports : ElementKind → List Port
 ports Still = []
 ports (In t negated operand) = port [] t ∷ []
 ports (Out how x link) = []
@@ -143,7 +143,7 @@ ports (Function f t enable inputs negated) = eno_ports enable ++ port (codes "OU
 ports (Call instance enable inputs in_outs outputs) = eno_ports enable ++ output_ports outputs
 
 -- the links of an element, in the order of its pins
-abbrev pub links_of : Kind → List Link
+abbrev pub links_of : ElementKind → List Link
 links_of Still = []
 links_of (In t negated operand) = []
 links_of (Out how x link) = link ∷ []
@@ -154,7 +154,7 @@ links_of (Label name) = []
 links_of (Jump label link) = link ∷ []
 links_of (Return link) = link ∷ []
 links_of (Function f t enable inputs negated) = enable_links enable ++ inputs
-links_of (Call instance enable inputs in_outs outputs) = enable_links enable ++ map (λ (i : Input). i.link) inputs
+links_of (Call instance enable inputs in_outs outputs) = enable_links enable ++ map (λ (i : InputPin). i.link) inputs
 
 abbrev pub reads_back : ℕ → List ℕ → Source → Bool
 reads_back id pin (Back i p) = nat_eq i id && bytes_eq p pin
@@ -165,27 +165,27 @@ link_reads_back id pin link = list_any (reads_back id pin) (link.first ∷ link.
 
 -- some element of the POU reads the output of this number and pin as one that feeds back
 abbrev pub is_fed : Pou → ℕ → Port → Bool
-is_fed p id o = list_any (λ (e : Element). list_any (link_reads_back id o.pin) (links_of e.kind)) p.elements
+is_fed p id o = list_any (λ (e : DiagramElement). list_any (link_reads_back id o.pin) (links_of e.kind)) p.elements
 
 -- the element remembers a value at its edge
-abbrev pub has_edge : Kind → Bool
+abbrev pub has_edge : ElementKind → Bool
 has_edge (Contact RisingContact operand link) = true
 has_edge (Contact FallingContact operand link) = true
 has_edge (Coil RisingCoil x link) = true
 has_edge (Coil FallingCoil x link) = true
 has_edge _ = false
 
-abbrev pub is_jump : Element → Bool
+abbrev pub is_jump : DiagramElement → Bool
 is_jump e = elim e.kind [ Jump label link ↦ true | Return link ↦ true | _ ↦ false ]
 
-abbrev pub has_jump : List (List Element) → Bool
+abbrev pub has_jump : List (List DiagramElement) → Bool
 has_jump networks = list_any (list_any is_jump) networks
 
-abbrev pub is_label : List ℕ → Element → Bool
+abbrev pub is_label : List ℕ → DiagramElement → Bool
 is_label label e = elim e.kind [ Label name ↦ bytes_eq (folded name) (folded label) | _ ↦ false ]
 
 -- the number of the network that the label stands in
-abbrev pub target : List ℕ → List (List Element) → ℕ
+abbrev pub target : List ℕ → List (List DiagramElement) → ℕ
 target label [] = 0
 target label (network ∷ networks) = if list_any (is_label label) network then 0 else target label networks + 1
 

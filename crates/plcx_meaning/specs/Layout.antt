@@ -22,6 +22,10 @@ pub record Variable : Type 0 where
   pub ty : List ℕ
   pub initial : Option Value
 
+-- an initial value is one of the variable's type, which is elementary
+abbrev pub InitialIsTyped : Variable → Type 0
+InitialIsTyped v = (value : Value) → v.initial ≡ Some value → (type_named v.ty ≡ Some value.ty) × InRange value.ty value.n
+
 abbrev pub variable : Class → Mark → Declaration → Variable
 variable class mark d = record { class = class; mark = mark; name = d.name; ty = d.ty; initial = d.initial }
 

@@ -5,7 +5,7 @@ ghost use Rattle.plcx_meaning.specs.Tree.{Expression, Statement, While, Statemen
 ghost use Rattle.plcx_meaning.specs.Layout.{Variable, Scope, layout, IsSpelled, IsOutside, IsRetainedState};
 ghost use Rattle.plcx_meaning.specs.Traces.{trace_from, diagram_trace, text_trace};
 ghost use Rattle.plcx_meaning.specs.Run.{Input, Event, Scan, Machine, Side, after, last_after, begin_side, AreEvents, CanFollow};
-ghost use Rattle.plcx_meaning.specs.Diagram.{Element, Pou, Project, program_named};
+ghost use Rattle.plcx_meaning.specs.Diagram.{DiagramElement, Pou, Project, program_named};
 ghost use Rattle.plcx_meaning.specs.Evaluate.{Heard, Diagram, Wires, no_wires, elements_do, successor, at_network, jumping, Setting, with_standard, blocks_do, program_does, diagram_machine};
 ghost use Rattle.plcx_meaning.specs.Watch.{earlier, heard_earlier};
 ghost use Rattle.plcx_meaning.specs.Execute.{Run, Frame, Here, with_truth, value_of, run_statement, run_statements, run_list, blocks_run, program_runs, text_machine};
@@ -46,7 +46,7 @@ pub fn turns_never_grow()
 
 /// A loop is its test, one turn, and the loop again; and so is a body with jumps from a network on. The numbers that bound the recursions of the definitions never show.
 pub fn loops()
-    ensures diagram { (n time : ℕ) (project : Project) (networks : List (List Element)) (c : Setting) → c.called ≡ with_standard time (blocks_do n time project) → (i : ℕ) (d : Diagram) → jumping d.left networks c i d ≡ at_network (slice_get networks i) d (λ network. spend d.left d (λ left. then_do (elements_do network c (record d { left = left }) no_wires) (λ e ws. jumping e.left networks c (successor networks network (i + 1) ws) e))) }
+    ensures diagram { (n time : ℕ) (project : Project) (networks : List (List DiagramElement)) (c : Setting) → c.called ≡ with_standard time (blocks_do n time project) → (i : ℕ) (d : Diagram) → jumping d.left networks c i d ≡ at_network (slice_get networks i) d (λ network. spend d.left d (λ left. then_do (elements_do network c (record d { left = left }) no_wires) (λ e ws. jumping e.left networks c (successor networks network (i + 1) ws) e))) }
     ensures text { (n time : ℕ) (unit : List PouText) (c : Here) (e : Expression) (ss : Statements) (g : Run) (f : Frame) → run_statement (While e ss) c (text.with_standard time (blocks_run n time unit)) g f ≡ with_truth (value_of e c g.store f) g (λ b. if b then spend g.left g (λ left. then_do (run_statements ss c (text.with_standard time (blocks_run n time unit)) (record g { left = left }) f) (run_statement (While e ss) c (text.with_standard time (blocks_run n time unit)))) else Ended g f) }
 {}
 
@@ -64,5 +64,5 @@ pub fn spelled_leaves()
 pub fn hearing()
     ensures program { (time : ℕ) (project : Project) (p : Pou) (hs : List Heard) (d : Diagram) → program_does time project p (earlier hs d) ≡ heard_earlier hs (program_does time project p d) }
     ensures blocks { (n time : ℕ) (project : Project) (type : List ℕ) (site : Site) (hs : List Heard) (d : Diagram) → with_standard time (blocks_do n time project) type site (earlier hs d) ≡ heard_earlier hs (with_standard time (blocks_do n time project) type site d) }
-    ensures elements { (n time : ℕ) (project : Project) (c : Setting) → c.called ≡ with_standard time (blocks_do n time project) → (es : List Element) (hs : List Heard) (d : Diagram) (ws : Wires) → elements_do es c (earlier hs d) ws ≡ heard_earlier hs (elements_do es c d ws) }
+    ensures elements { (n time : ℕ) (project : Project) (c : Setting) → c.called ≡ with_standard time (blocks_do n time project) → (es : List DiagramElement) (hs : List Heard) (d : Diagram) (ws : Wires) → elements_do es c (earlier hs d) ws ≡ heard_earlier hs (elements_do es c d ws) }
 {}
