@@ -16,7 +16,7 @@ use Rattle.plcx_meaning.specs.Tree.{Expression, Assign, If, statements}
 use Rattle.plcx_meaning.specs.Functions.{Answer, Given, Faulty, Missing, out_type, answer}
 use Rattle.plcx_meaning.specs.Diagram.{Enable, has_eno, eno_negated, eno_ports, Link, Port, port}
 use Rattle.plcx_meaning.specs.Evaluate.{Diagram, Wires, fix, fix_eno, turn, enable_value, link_value, with_result, function_result}
-use Rattle.plcx_meaning.specs.Execute.{Temporary, Here, place_of, Run, Frame, hold, with_value, value_of, assign, Invoked, run_statement, run_statements, run_list}
+use Rattle.plcx_meaning.specs.Execute.{Temporary, Here, referent_of, Run, Frame, hold, with_value, value_of, assign, Invoked, run_statement, run_statements, run_list}
 use Rattle.plcx_meaning.specs.Templates.{wire_name, wire, number, link_text, function_text, eno_text, enabled, out_default, turned_if}
 use Rattle.plcx_meaning.specs.Same.{Agree}
 use Rattle.plcx_meaning.specs.Fits.{is_fresh}
@@ -50,21 +50,21 @@ tagged_types values (l ∷ links) = ap (λ ts. l.ty ∷ ts) (tagged_types values
 module _ (c : Here) (call : Invoked) where
   -- a wire gets what a function gives
   result_alike : (r : Result Value Fault) (id : ℕ) (o : Port) (done : List (ℕ × Port)) (d : Diagram) (ws : Wires) (g : Run) (f h : Frame)
-      → place_of c (wire_name id o.pin) ≡ Temporary o.ty → Agree d g → ((n : ℤ) → SameWires ((id, o) ∷ done) (fix ws id o.pin n) (hold f (wire_name id o.pin) n)) → ((n : ℤ) → hold h (wire_name id o.pin) n ≡ hold f (wire_name id o.pin) n)
-      → Alike (SameWires ((id, o) ∷ done)) (with_result r d (λ n. Ended d (fix ws id o.pin n))) (with_value (answer o.ty r) g (λ v. assign (place_of c (wire_name id o.pin)) (wire_name id o.pin) c.site v g h))
+      → referent_of c (wire_name id o.pin) ≡ Temporary o.ty → Agree d g → ((n : ℤ) → SameWires ((id, o) ∷ done) (fix ws id o.pin n) (hold f (wire_name id o.pin) n)) → ((n : ℤ) → hold h (wire_name id o.pin) n ≡ hold f (wire_name id o.pin) n)
+      → Alike (SameWires ((id, o) ∷ done)) (with_result r d (λ n. Ended d (fix ws id o.pin n))) (with_value (answer o.ty r) g (λ v. assign (referent_of c (wire_name id o.pin)) (wire_name id o.pin) c.site v g h))
   result_alike (Err fault) id o done d ws g f h place a same holds = both_stop (Faulted fault) a
   result_alike (Ok v) id o done d ws g f h place a same holds =
       alike_as _ (Ended g (hold f (wire_name id o.pin) v.n)) (rw (place, same_type o.ty) (ap (λ k. Ended g k) (holds v.n))) (both_end a (same v.n))
 
   -- where EN is connected
   under_eno : (b : Bool) (r : Result Value Fault) (t : Ty) (id : ℕ) (o : Port) (e : Expression) (done : List (ℕ × Port)) (d : Diagram) (ws : Wires) (g : Run) (f : Frame)
-      → place_of c (wire_name id o.pin) ≡ Temporary o.ty → Agree d g → ((n : ℤ) → SameWires ((id, o) ∷ done) (fix ws id o.pin n) (hold f (wire_name id o.pin) n))
+      → referent_of c (wire_name id o.pin) ≡ Temporary o.ty → Agree d g → ((n : ℤ) → SameWires ((id, o) ∷ done) (fix ws id o.pin n) (hold f (wire_name id o.pin) n))
       → value_of e c g.store (hold f (wire_name id o.pin) (pos 0)) ≡ answer o.ty r
       → Alike (SameWires ((id, o) ∷ done)) (with_result (if b then r else Ok (value t (pos 0))) d (λ n. Ended d (fix ws id o.pin n)))
       (if b then run_statements (statements (Assign (wire_name id o.pin) e ∷ [])) c call g (hold f (wire_name id o.pin) (pos 0)) else Ended g (hold f (wire_name id o.pin) (pos 0)))
   under_eno true r t id o e done d ws g f place a same known =
       let f2 = hold f (wire_name id o.pin) (pos 0) in
-      alike_as _ _ (then_ended _ ∙ ap (λ v. with_value v g (λ v'. assign (place_of c (wire_name id o.pin)) (wire_name id o.pin) c.site v' g f2)) known)
+      alike_as _ _ (then_ended _ ∙ ap (λ v. with_value v g (λ v'. assign (referent_of c (wire_name id o.pin)) (wire_name id o.pin) c.site v' g f2)) known)
       (result_alike r id o done d ws g f f2 place a same (λ n. hold_twice f (wire_name id o.pin) (pos 0) n))
   under_eno false r t id o e done d ws g f place a same known = both_end a (same (pos 0))
 
@@ -76,7 +76,7 @@ result_then (Err fault) d go h = refl
 module _ (c : Here) (call : Invoked) where
   -- OUT, with its default where EN may be FALSE
   out_by : (en : Option Link) (listed : Option Bool) (r : Result Value Fault) (t : Ty) (v : ℤ) (id : ℕ) (o : Port) (e : Expression) (done : List (ℕ × Port)) (d : Diagram) (ws : Wires) (g : Run) (f : Frame)
-      → (en ≡ None → is_true v ≡ true) → place_of c (wire_name id o.pin) ≡ Temporary o.ty → Agree d g → ((n : ℤ) → SameWires ((id, o) ∷ done) (fix ws id o.pin n) (hold f (wire_name id o.pin) n))
+      → (en ≡ None → is_true v ≡ true) → referent_of c (wire_name id o.pin) ≡ Temporary o.ty → Agree d g → ((n : ℤ) → SameWires ((id, o) ∷ done) (fix ws id o.pin n) (hold f (wire_name id o.pin) n))
       → value_of e c g.store f ≡ answer o.ty r → value_of e c g.store (hold f (wire_name id o.pin) (pos 0)) ≡ answer o.ty r
       → ((link : Link) → en ≡ Some link → value_of (wire id eno) c g.store (hold f (wire_name id o.pin) (pos 0)) ≡ Given (value ty.Bool v))
       → o.pin ≡ out
@@ -91,7 +91,7 @@ module _ (c : Here) (call : Invoked) where
       (under_eno c call (is_true v) r t id o e done d ws g f place a same second)
   out_by None listed r t v id o e done d ws g f off place a same first second known pin =
       alike_from _ _ (ap (λ b. with_result (if b then r else Ok (value t (pos 0))) d (λ n. Ended d (fix ws id o.pin n))) (off refl))
-      (alike_as _ _ (ap (λ q. with_value q g (λ v'. assign (place_of c (wire_name id o.pin)) (wire_name id o.pin) c.site v' g f)) first)
+      (alike_as _ _ (ap (λ q. with_value q g (λ v'. assign (referent_of c (wire_name id o.pin)) (wire_name id o.pin) c.site v' g f)) first)
       (result_alike c call r id o done d ws g f f place a same (λ n. refl)))
 
   module _ (site : IsDeclared c.site) (done : List (ℕ × Port)) (d : Diagram) (ws : Wires) (g : Run) (a : Agree d g) where
@@ -112,7 +112,7 @@ module _ (c : Here) (call : Invoked) where
     enable_known f same enable asked link h = let one = asked link h in link_known c site done d ws g f a same link one.0 ∙ ap (λ u. Given (value u (link_value c.site.path d ws link))) one.1
 
     abbrev Place : ℕ → Port → Type 0
-    Place id o = place_of c (wire_name id o.pin) ≡ Temporary o.ty
+    Place id o = referent_of c (wire_name id o.pin) ≡ Temporary o.ty
 
     -- ENO and OUT in the order of the ports
     in_order : (b : Bool) (id : ℕ) (o : Port) (ws' : Wires) (f' : Frame) → SameWires ((id, o) ∷ (eno_fixed b id ++ done)) ws' f' → SameWires (eno_fixed b id ++ ((id, o) ∷ done)) ws' f'

@@ -11,11 +11,11 @@ use Rattle.plcx_meaning.specs.Tree.{Expression, Name, Member, Statement, Assign,
 use Rattle.plcx_meaning.specs.Tree as tree
 use Rattle.plcx_meaning.specs.Layout.{Variable, variable_named}
 use Rattle.plcx_meaning.specs.Functions.{Given}
-use Rattle.plcx_meaning.specs.Diagram.{Enable, has_eno, eno_negated, eno_ports, output_ports, Link, Input, InOut, Output', Port, port}
+use Rattle.plcx_meaning.specs.Diagram.{Enable, has_eno, eno_negated, eno_ports, output_ports, Link, InputPin, InOutPin, OutputPin, Port, port}
 use Rattle.plcx_meaning.specs.Evaluate.{Diagram, Wires, Called, Setting, fix, fix_eno, turn, enable_value, link_value, leaf_named, set_leaf, store_inputs, take_outputs, call_does}
 use Rattle.plcx_meaning.specs.Evaluate as diagram
 use Rattle.plcx_meaning.specs.Execute as text
-use Rattle.plcx_meaning.specs.Execute.{Temporary, Instance, Here, place_of, Run, Frame, hold, value_of, Invoked, type_of_instance, all_bound, parts_named, store_arguments, run_statement, run_statements, run_list, invoke}
+use Rattle.plcx_meaning.specs.Execute.{Temporary, Instance, Here, referent_of, Run, Frame, hold, value_of, Invoked, type_of_instance, all_bound, parts_named, store_arguments, run_statement, run_statements, run_list, invoke}
 use Rattle.plcx_meaning.specs.Templates.{wire_name, wire, link_text, eno_text, enabled, turned_if, input_text, in_out_text, output_text}
 use Rattle.plcx_meaning.specs.Same.{Agree}
 use Rattle.plcx_meaning.specs.Fits.{is_fresh}
@@ -38,24 +38,24 @@ one_of false p q h k = k
 
 module _ (c : Here) (vs : List Variable) (instance : List ℕ) where
   -- both sides bind the in-outs to the same leaves
-  outs_bound : (bound : List InOut) → Each (InOutAsked c vs instance) bound → (key : List ℕ) → text.bind (map in_out_text bound) c instance key ≡ diagram.bind bound (leaf_named vs c.site) key
+  outs_bound : (bound : List InOutPin) → Each (InOutAsked c vs instance) bound → (key : List ℕ) → text.bind (map in_out_text bound) c instance key ≡ diagram.bind bound (leaf_named vs c.site) key
   outs_bound [] asked key = refl
   outs_bound (o ∷ bound) asked key =
       let rest = outs_bound bound asked.1 key in
       rw (asked.0.formal) (ap (λ p. if bytes_eq (folded o.name) key then p else text.bind (map in_out_text bound) c instance key) asked.0.variable.leaf
       ∙ ap (λ p. if bytes_eq (folded o.name) key then leaf_named vs c.site o.variable else p) rest)
 
-  same_bound : (done : List (ℕ × Port)) (taken : List Input) (bound : List InOut) → Each (InputAsked c done instance) taken → Each (InOutAsked c vs instance) bound
+  same_bound : (done : List (ℕ × Port)) (taken : List InputPin) (bound : List InOutPin) → Each (InputAsked c done instance) taken → Each (InOutAsked c vs instance) bound
       → (key : List ℕ) → text.bind (map input_text taken ++ map in_out_text bound) c instance key ≡ diagram.bind bound (leaf_named vs c.site) key
   same_bound done [] bound asked outs key = outs_bound bound outs key
   same_bound done (i ∷ taken) bound asked outs key = rw (asked.0.formal) (same_bound done taken bound asked.1 outs key)
 
-  bound_declared : (bound : List InOut) → Each (InOutAsked c vs instance) bound → (key : List ℕ) → is_declared (diagram.bind bound (leaf_named vs c.site) key) ≡ true
+  bound_declared : (bound : List InOutPin) → Each (InOutAsked c vs instance) bound → (key : List ℕ) → is_declared (diagram.bind bound (leaf_named vs c.site) key) ≡ true
   bound_declared [] asked key = refl
   bound_declared (o ∷ bound) asked key = one_of (bytes_eq (folded o.name) key) (leaf_named vs c.site o.variable) (diagram.bind bound (leaf_named vs c.site) key) asked.0.variable.declared (bound_declared bound asked.1 key)
 
   -- the in-outs store nothing
-  outs_stored : (bound : List InOut) → Each (InOutAsked c vs instance) bound → (old : Run) (f : Frame) (g : Run) (go : Run → Outcome Run Frame) → store_arguments (map in_out_text bound) c instance old f g go ≡ go g
+  outs_stored : (bound : List InOutPin) → Each (InOutAsked c vs instance) bound → (old : Run) (f : Frame) (g : Run) (go : Run → Outcome Run Frame) → store_arguments (map in_out_text bound) c instance old f g go ≡ go g
   outs_stored [] asked old f g go = refl
   outs_stored (o ∷ bound) asked old f g go = rw (asked.0.formal, asked.0.variable.has) (outs_stored bound asked.1 old f g go)
 
@@ -64,7 +64,7 @@ module _ (c : Here) (vs : List Variable) (instance : List ℕ) where
     inner = folded instance ∷ c.site.path
 
     -- the inputs are stored on both sides, in the state before the call
-    inputs_alike : {L : Type 0} {R : L → Frame → Type 0} (taken : List Input) (more : List Argument) → Each (InputAsked c done instance) taken → (d1 : Diagram) (g1 : Run) → Agree d1 g1
+    inputs_alike : {L : Type 0} {R : L → Frame → Type 0} (taken : List InputPin) (more : List Argument) → Each (InputAsked c done instance) taken → (d1 : Diagram) (g1 : Run) → Agree d1 g1
         → (next : Diagram → Outcome Diagram L) (go : Run → Outcome Run Frame) → ((d' : Diagram) (g' : Run) → Agree d' g' → Alike R (next d') (store_arguments more c instance g f g' go))
         → Alike R (next (store_inputs taken (folded instance ∷ c.site.path) (link_value c.site.path d ws) d1)) (store_arguments (map input_text taken ++ more) c instance g f g1 go)
     inputs_alike [] more asked d1 g1 a1 next go h = h d1 g1 a1
@@ -109,7 +109,7 @@ module _ (c : Here) (pou : ℕ) (vs : List Variable) (called : Called) (call : I
   abbrev setting : Setting
   setting = record { pou = pou; variables = vs; site = c.site; called = called }
 
-  module _ (instance : List ℕ) (taken : List Input) (bound : List InOut) (given : List Output') (done : List (ℕ × Port)) (asked : CallAsked c vs done instance taken bound given) where
+  module _ (instance : List ℕ) (taken : List InputPin) (bound : List InOutPin) (given : List OutputPin) (done : List (ℕ × Port)) (asked : CallAsked c vs done instance taken bound given) where
     abbrev arguments : List Argument
     arguments = map input_text taken ++ map in_out_text bound
 
@@ -150,7 +150,7 @@ module _ (c : Here) (pou : ℕ) (vs : List Variable) (called : Called) (call : I
         (invoked_alike d ws g f a same)
 
   -- the stored outputs on their wires
-  outputs_alike : (instance : List ℕ) → is_declared (folded instance ∷ []) ≡ true → (id : ℕ) → id < 2 ^ 64 → (given : List Output') → Each (OutputAsked c instance) given → Each (λ (o : Port). place_of c (wire_name id o.pin) ≡ Temporary o.ty) (output_ports given)
+  outputs_alike : (instance : List ℕ) → is_declared (folded instance ∷ []) ≡ true → (id : ℕ) → id < 2 ^ 64 → (given : List OutputPin) → Each (OutputAsked c instance) given → Each (λ (o : Port). referent_of c (wire_name id o.pin) ≡ Temporary o.ty) (output_ports given)
       → (done : List (ℕ × Port)) (d : Diagram) (ws : Wires) (g : Run) (f : Frame) → Agree d g → SameWires done ws f
       → Alike (SameWires (map (λ (o : Port). (id, o)) (output_ports given) ++ done)) (Ended d (take_outputs given id (folded instance ∷ c.site.path) d ws)) (run_list (map (output_text id instance) given) c call g f)
   outputs_alike instance own id small [] asked places done d ws g f a same = both_end a same
@@ -166,8 +166,8 @@ module _ (c : Here) (pou : ℕ) (vs : List Variable) (called : Called) (call : I
       (outputs_alike instance own id small given asked.1 places.1 ((id, port o.name o.ty) ∷ done) d (fix ws id o.name n) g (hold f (wire_name id o.name) n) a (wires_fix id small (port o.name o.ty) n done ws f same))
       (λ ws' f' same'. each_forward _ (map (λ (q : Port). (id, q)) (output_ports given)) (id, port o.name o.ty) done same'))
 
-  pub call_alike : (instance : List ℕ) (enable : Enable) (taken : List Input) (bound : List InOut) (given : List Output') (id : ℕ) → id < 2 ^ 64 → (done : List (ℕ × Port)) → is_fresh id done ≡ true
-      → CallAsked c vs done instance taken bound given → EnableAsked c done enable → Each (λ (o : Port). place_of c (wire_name id o.pin) ≡ Temporary o.ty) (eno_ports enable ++ output_ports given)
+  pub call_alike : (instance : List ℕ) (enable : Enable) (taken : List InputPin) (bound : List InOutPin) (given : List OutputPin) (id : ℕ) → id < 2 ^ 64 → (done : List (ℕ × Port)) → is_fresh id done ≡ true
+      → CallAsked c vs done instance taken bound given → EnableAsked c done enable → Each (λ (o : Port). referent_of c (wire_name id o.pin) ≡ Temporary o.ty) (eno_ports enable ++ output_ports given)
       → (d : Diagram) (ws : Wires) (g : Run) (f : Frame) → Agree d g → SameWires done ws f
       → Alike (SameWires (map (λ (o : Port). (id, o)) (eno_ports enable ++ output_ports given) ++ done))
       (found (variable_named (folded instance) vs) (λ v.
@@ -180,7 +180,7 @@ module _ (c : Here) (pou : ℕ) (vs : List Variable) (called : Called) (call : I
       let b = has_eno enable in
       let f1 = eno_held b id v f in
       let ws1 = fix_eno enable id v ws in
-      let P : Port → Type 0 = λ o. place_of c (wire_name id o.pin) ≡ Temporary o.ty in
+      let P : Port → Type 0 = λ o. referent_of c (wire_name id o.pin) ≡ Temporary o.ty in
       let parts = each_split P (eno_ports enable) (output_ports given) places in
       let same1 : SameWires (eno_fixed b id ++ done) ws1 f1 = eno_wires b id small v done ws f same in
       let fresh1 : SameWires done ws f1 = eno_fresh b id small v done ws f fresh same in

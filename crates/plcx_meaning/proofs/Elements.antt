@@ -7,9 +7,9 @@ use Rattle.plcx_funcs.specs.Applied.{value}
 use Rattle.plcx_meaning.specs.Base.{AtEdge, AtOutput, Each, Ended, then_do, not_if}
 use Rattle.plcx_meaning.specs.Layout.{Variable}
 use Rattle.plcx_meaning.specs.Functions.{Given}
-use Rattle.plcx_meaning.specs.Diagram.{Kind, Still, In, Out, Contact, Coil, Pass, Label, Jump, Return, Function, Call, Contacting, Open, Closed, RisingContact, FallingContact, Coiling, By, RisingCoil, FallingCoil, Link, Port, port, ports, has_edge, Element}
+use Rattle.plcx_meaning.specs.Diagram.{ElementKind, Still, In, Out, Contact, Coil, Pass, Label, Jump, Return, Function, Call, Contacting, Open, Closed, RisingContact, FallingContact, Coiling, By, RisingCoil, FallingCoil, Link, Port, port, ports, has_edge, DiagramElement}
 use Rattle.plcx_meaning.specs.Evaluate.{Diagram, Wires, Called, Setting, set_memory, link_value, operand_leaf, kind_does, feed, outputs_heard, element_does}
-use Rattle.plcx_meaning.specs.Execute.{Temporary, Kept, Here, place_of, Run, Frame, value_of, Invoked, run_list}
+use Rattle.plcx_meaning.specs.Execute.{Temporary, Kept, Here, referent_of, Run, Frame, value_of, Invoked, run_list}
 use Rattle.plcx_meaning.specs.Templates.{wire_name, memory_name, wire, link_text, operand_text, kind_text, feed_text, element_text, elements_text}
 use Rattle.plcx_meaning.specs.Templates as templates
 use Rattle.plcx_meaning.specs.Same.{Agree}
@@ -52,8 +52,8 @@ module _ (c : Here) (pou : ℕ) (vs : List Variable) (called : Called) (call : I
       → value_of (link_text link) c g.store f ≡ Given (value ty.Bool (link_value c.site.path d ws link))
   truth_known done link asked is d ws g f a same = link_known c site done d ws g f a same link asked ∙ ap (λ u. Given (value u (link_value c.site.path d ws link))) is
 
-  kind_alike : (k : Kind) (id : ℕ) → id < 2 ^ 64 → (done : List (ℕ × Port)) → is_fresh id done ≡ true → KindAsked c vs done k → Each (λ (o : Port). place_of c (wire_name id o.pin) ≡ Temporary o.ty) (ports k)
-      → (has_edge k ≡ true → place_of c (memory_name (AtEdge id)) ≡ Kept ty.Bool) → (d : Diagram) (ws : Wires) (g : Run) (f : Frame) → Agree d g → SameWires done ws f
+  kind_alike : (k : ElementKind) (id : ℕ) → id < 2 ^ 64 → (done : List (ℕ × Port)) → is_fresh id done ≡ true → KindAsked c vs done k → Each (λ (o : Port). referent_of c (wire_name id o.pin) ≡ Temporary o.ty) (ports k)
+      → (has_edge k ≡ true → referent_of c (memory_name (AtEdge id)) ≡ Kept ty.Bool) → (d : Diagram) (ws : Wires) (g : Run) (f : Frame) → Agree d g → SameWires done ws f
       → Alike (SameWires (map (λ (o : Port). (id, o)) (ports k) ++ done)) (kind_does k id setting d ws) (run_list (kind_text k id) c call g f)
   kind_alike Still id small done fresh asked places edge d ws g f a same = both_end a same
   kind_alike (Label name) id small done fresh asked places edge d ws g f a same = both_end a same
@@ -81,7 +81,7 @@ module _ (c : Here) (pou : ℕ) (vs : List Variable) (called : Called) (call : I
       call_alike c pou vs called call site calls instance enable taken bound given id small done fresh asked.0 asked.1 places d ws g f a same
 
   -- what feeds back is remembered on both sides
-  feed_alike : (id : ℕ) → id < 2 ^ 64 → (outs : List Port) (fed : List Port) → Each (λ (o : Port). place_of c (wire_name id o.pin) ≡ Temporary o.ty) outs → Each (λ (o : Port). (place_of c (memory_name (AtOutput id o.pin)) ≡ Kept o.ty) × Contains outs o) fed
+  feed_alike : (id : ℕ) → id < 2 ^ 64 → (outs : List Port) (fed : List Port) → Each (λ (o : Port). referent_of c (wire_name id o.pin) ≡ Temporary o.ty) outs → Each (λ (o : Port). (referent_of c (memory_name (AtOutput id o.pin)) ≡ Kept o.ty) × Contains outs o) fed
       → (done : List (ℕ × Port)) (d : Diagram) (ws : Wires) (g : Run) (f : Frame) → Agree d g → SameWires (map (λ (o : Port). (id, o)) outs ++ done) ws f
       → Alike (SameWires (map (λ (o : Port). (id, o)) outs ++ done)) (Ended (feed id fed c.site.path ws d) ws) (run_list (map (feed_text id) fed) c call g f)
   feed_alike id small outs [] places asked done d ws g f a same = both_end a same
@@ -94,7 +94,7 @@ module _ (c : Here) (pou : ℕ) (vs : List Variable) (called : Called) (call : I
       alike_as _ _ (ap (λ q. then_do q (run_list (map (feed_text id) fed) c call)) first)
       (feed_alike id small outs fed places asked.1 done (set_memory d c.site.path (AtOutput id o.pin) n) ws _ f (agree_memory d g c.site.path (AtOutput id o.pin) n small a) same)
 
-  element_alike : (e : Element) (done : List (ℕ × Port)) → OwnAsked c e → is_fresh e.id done ≡ true → KindAsked c vs done e.kind → (d : Diagram) (ws : Wires) (g : Run) (f : Frame) → Agree d g → SameWires done ws f
+  element_alike : (e : DiagramElement) (done : List (ℕ × Port)) → OwnAsked c e → is_fresh e.id done ≡ true → KindAsked c vs done e.kind → (d : Diagram) (ws : Wires) (g : Run) (f : Frame) → Agree d g → SameWires done ws f
       → Alike (SameWires (fixed_by e ++ done)) (element_does e setting d ws) (run_list (element_text e) c call g f)
   element_alike e done own fresh asked d ws g f a same =
       alike_as _ _ (run_append (kind_text e.kind e.id) (map (feed_text e.id) e.fed) c call g f)

@@ -10,7 +10,7 @@ use Rattle.plcx_meaning.specs.Tree.{Not}
 use Rattle.plcx_meaning.specs.Functions.{Given}
 use Rattle.plcx_meaning.specs.Diagram.{Enable, has_eno, eno_negated, eno_ports, Link, Port, port}
 use Rattle.plcx_meaning.specs.Evaluate.{Diagram, Wires, fix, turn, enable_value}
-use Rattle.plcx_meaning.specs.Execute.{Temporary, Here, place_of, Run, Frame, hold, value_of, Invoked, run_list}
+use Rattle.plcx_meaning.specs.Execute.{Temporary, Here, referent_of, Run, Frame, hold, value_of, Invoked, run_list}
 use Rattle.plcx_meaning.specs.Templates.{wire_name, wire, link_text, eno_text, turned_if}
 use Rattle.plcx_meaning.specs.Same.{Agree}
 use Rattle.plcx_meaning.specs.Fits.{is_fresh}
@@ -44,7 +44,7 @@ eno_fresh false id small v done ws f fresh same = same
 
 module _ (c : Here) (call : Invoked) where
   eno_by : (en : Option Link) (listed : Option Bool) (id : ℕ) (values : Link → ℤ) (g : Run) (f : Frame)
-      → (has_eno (record { en = en; eno = listed }) ≡ true → place_of c (wire_name id eno) ≡ Temporary ty.Bool)
+      → (has_eno (record { en = en; eno = listed }) ≡ true → referent_of c (wire_name id eno) ≡ Temporary ty.Bool)
       → ((link : Link) → en ≡ Some link → value_of (link_text link) c g.store f ≡ Given (value ty.Bool (values link)))
       → run_list (eno_text id (record { en = en; eno = listed })) c call g f ≡ Ended g (eno_held (has_eno (record { en = en; eno = listed })) id (enable_value values (record { en = en; eno = listed })) f)
   eno_by (Some link) listed id values g f place known = then_ended _ ∙ assign_temporary c call g f (wire_name id eno) (link_text link) ty.Bool (values link) (place refl) (known link refl)
@@ -52,14 +52,14 @@ module _ (c : Here) (call : Invoked) where
   eno_by None None id values g f place known = refl
 
   pub eno_runs : (enable : Enable) (id : ℕ) (values : Link → ℤ) (g : Run) (f : Frame)
-      → (has_eno enable ≡ true → place_of c (wire_name id eno) ≡ Temporary ty.Bool)
+      → (has_eno enable ≡ true → referent_of c (wire_name id eno) ≡ Temporary ty.Bool)
       → ((link : Link) → enable.en ≡ Some link → value_of (link_text link) c g.store f ≡ Given (value ty.Bool (values link)))
       → run_list (eno_text id enable) c call g f ≡ Ended g (eno_held (has_eno enable) id (enable_value values enable) f)
   eno_runs enable id values g f place known = eno_by enable.en enable.eno id values g f place known
 
   -- a wire under NOT
   pub turn_alike : (b : Bool) (id : ℕ) → id < 2 ^ 64 → (pin : List ℕ) (done : List (ℕ × Port)) (d : Diagram) (ws : Wires) (g : Run) (f : Frame) → Agree d g → SameWires done ws f
-      → (b ≡ true → (place_of c (wire_name id pin) ≡ Temporary ty.Bool) × (ws id pin ≡ f (folded (wire_name id pin))))
+      → (b ≡ true → (referent_of c (wire_name id pin) ≡ Temporary ty.Bool) × (ws id pin ≡ f (folded (wire_name id pin))))
       → Alike (SameWires done) (Ended d (turn b id pin ws)) (run_list (turned_if b id pin) c call g f)
   turn_alike false id small pin done d ws g f a same asked = both_end a same
   turn_alike true id small pin done d ws g f a same asked =

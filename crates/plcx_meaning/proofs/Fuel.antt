@@ -11,7 +11,7 @@ use Rattle.plcx_meaning.specs.Tree.{Expression, Argument, Statement, Assign, Cal
 use Rattle.plcx_meaning.specs.Layout.{variables_of}
 use Rattle.plcx_meaning.specs.Standard.{called}
 use Rattle.plcx_meaning.specs.Functions.{Answer, Given, Faulty, Missing}
-use Rattle.plcx_meaning.specs.Execute.{Place, Temporary, Kept, Bound, Instance, Unknown, Here, place_of, Run, Frame, fresh, with_value, with_truth, value_of, assign, Formal, Takes, Binds, NoFormal, formal_named, has_leaf, place_in, store_argument, store_arguments, bind, all_bound, parts_named, type_of_instance, Invoked, invoke, turns, is_label, run_statement, run_statements, run_arms, run_list, run_pou, block_named, world_of, with_standard, blocks_run, program_runs}
+use Rattle.plcx_meaning.specs.Execute.{Referent, Temporary, Kept, Bound, Instance, Unknown, Here, referent_of, Run, Frame, fresh, with_value, with_truth, value_of, assign, Formal, Takes, Binds, NoFormal, formal_named, has_leaf, referent_in, store_argument, store_arguments, bind, all_bound, parts_named, type_of_instance, Invoked, invoke, turns, is_label, run_statement, run_statements, run_arms, run_list, run_pou, block_named, world_of, with_standard, blocks_run, program_runs}
 use Rattle.plcx_meaning.proofs.Turns.{Lowers, lowers_end, lowers_stop, lowers_stuck, lowers_then, lowers_more, lowers_if, lowers_found, lowers_spend, spend_zero, spend_same, then_same}
 
 abbrev pub left : Run → ℕ
@@ -61,7 +61,7 @@ module _ (test : Run → Frame → Answer Value) (body : Run → Frame → Outco
       then_same left j (body (record g { left = j }) f) (turns g.left test body) (λ g' f'. turns g'.left test body g' f') (low (record g { left = j }) f)
       (λ g' f' le'. turns_same g.left g'.left g' f' (omega arith) (le_refl _))))
 
-assign_lower : (p : Place) (x : List ℕ) (site : Site) (v : Value) (g : Run) (f : Frame) → Lowers left g.left (assign p x site v g f)
+assign_lower : (p : Referent) (x : List ℕ) (site : Site) (v : Value) (g : Run) (f : Frame) → Lowers left g.left (assign p x site v g f)
 assign_lower (Kept t) x site v g f = lowers_if left _ (same_ty v.ty t) _ _ (lowers_end left _ _ _ (le_refl _)) (lowers_stuck left _)
 assign_lower (Bound t) x site v g f = lowers_if left _ (same_ty v.ty t) _ _ (lowers_end left _ _ _ (le_refl _)) (lowers_stuck left _)
 assign_lower (Temporary t) x site v g f = lowers_if left _ (same_ty v.ty t) _ _ (lowers_end left _ _ _ (le_refl _)) (lowers_stuck left _)
@@ -72,7 +72,7 @@ argument_lower : (k : Formal) (a : Argument) (c : Here) (p : Path) (old : Run) (
     → ((h : Run) → h.left ≡ old.left → Lowers left old.left (go h)) → Lowers left old.left (store_argument k a c p old f g go)
 argument_lower (Takes t) a c p old f g go e h =
     lowers_value old.left (value_of a.value c old.store f) old _ (le_refl _) (λ v. lowers_if left _ (same_ty v.ty t) _ _ (h (record g { store = put g.store p v.n }) e) (lowers_stuck left _))
-argument_lower (Binds t) a c p old f g go e h = lowers_if left _ (has_leaf (place_in c a.value) t) _ _ (h g e) (lowers_stuck left _)
+argument_lower (Binds t) a c p old f g go e h = lowers_if left _ (has_leaf (referent_in c a.value) t) _ _ (h g e) (lowers_stuck left _)
 argument_lower NoFormal a c p old f g go e h = lowers_stuck left _
 
 arguments_lower : (args : List Argument) (c : Here) (i : List ℕ) (old : Run) (f : Frame) (g : Run) (go : Run → Outcome Run Frame) → g.left ≡ old.left
@@ -84,7 +84,7 @@ arguments_lower (a ∷ rest) c i old f g go e h =
 module _ (c : Here) (call : Invoked) (low : CallLowers call) where
   invoke_lower : (i : List ℕ) (args : List Argument) (g : Run) (f : Frame) → Lowers left g.left (invoke i args c call g f)
   invoke_lower i args g f =
-      lowers_found left _ (type_of_instance (place_of c i)) _ (λ type.
+      lowers_found left _ (type_of_instance (referent_of c i)) _ (λ type.
       lowers_if left _ (all_bound args (parts_named c i)) _ _
       (arguments_lower args c i g f g _ refl (λ h e.
       lowers_then left _ (call type (record { path = folded i ∷ c.site.path; bound = bind args c i }) h) _
@@ -94,7 +94,7 @@ module _ (c : Here) (call : Invoked) (low : CallLowers call) where
 
   mutual
     statement_lower : (s : Statement) (g : Run) (f : Frame) → Lowers left g.left (run_statement s c call g f)
-    statement_lower (Assign x e) g f = lowers_value _ (value_of e c g.store f) g _ (le_refl _) (λ v. assign_lower (place_of c x) x c.site v g f)
+    statement_lower (Assign x e) g f = lowers_value _ (value_of e c g.store f) g _ (le_refl _) (λ v. assign_lower (referent_of c x) x c.site v g f)
     statement_lower (Call i args) g f = invoke_lower i args g f
     statement_lower (If e ss) g f = lowers_truth _ (value_of e c g.store f) g _ (le_refl _) (λ b. lowers_if left _ b _ _ (statements_lower ss g f) (lowers_end left _ g f (le_refl _)))
     statement_lower (While e ss) g f = turns_lower _ (run_statements ss c call) (statements_lower ss) g.left g f

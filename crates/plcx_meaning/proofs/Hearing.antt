@@ -12,7 +12,7 @@ use Rattle.plcx_std.specs.Kind.{kind_named}
 use Rattle.plcx_meaning.specs.Base.{Path, Site, is_true, not_if, AtEdge, Faulted, OutOfTurns, Outcome, Ended, Stopped, Stuck, then_do, spend, found}
 use Rattle.plcx_meaning.specs.Layout.{variable_named}
 use Rattle.plcx_meaning.specs.Standard.{called}
-use Rattle.plcx_meaning.specs.Diagram.{Source, Rail, Literal, Wire, Back, Link, Storing, Stored, Inverted, Set, Reset, Contacting, Open, Closed, RisingContact, FallingContact, Coiling, By, RisingCoil, FallingCoil, eno_negated, Input, InOut, Output', Kind, Still, In, Out, Contact, Coil, Pass, Label, Jump, Return, Function, Call, Port, ports, Element, Pou, Project, has_jump, block_named}
+use Rattle.plcx_meaning.specs.Diagram.{Source, Rail, Literal, Wire, Back, Link, Storing, Stored, Inverted, Set, Reset, Contacting, Open, Closed, RisingContact, FallingContact, Coiling, By, RisingCoil, FallingCoil, eno_negated, InputPin, InOutPin, OutputPin, ElementKind, Still, In, Out, Contact, Coil, Pass, Label, Jump, Return, Function, Call, Port, ports, DiagramElement, Pou, Project, has_jump, block_named}
 use Rattle.plcx_meaning.specs.Evaluate.{Heard, Diagram, Wires, no_wires, fix, fix_eno, turn, set_leaf, set_memory, operand_leaf, source_value, or_all, link_value, store_by, contact_value, contact_does, coil_does, enable_value, with_result, function_result, store_inputs, leaf_named, bind, take_outputs, Called, Setting, call_does, kind_does, feed, outputs_heard, hear, element_does, elements_do, straight, successor, at_network, jumping, body_does, with_standard, pou_does, blocks_do, program_does}
 use Rattle.plcx_meaning.specs.Watch.{earlier, heard_earlier}
 
@@ -47,7 +47,7 @@ module _ (hs : List Heard) where
   spend_earlier zero d go to same = refl
   spend_earlier (suc n) d go to same = same n
 
-  network_earlier : (o : Option (List Element)) (d : Diagram) (go to : List Element → Outcome Diagram (Unit {0})) → ((network : List Element) → to network ≡ heard_earlier hs (go network))
+  network_earlier : (o : Option (List DiagramElement)) (d : Diagram) (go to : List DiagramElement → Outcome Diagram (Unit {0})) → ((network : List DiagramElement) → to network ≡ heard_earlier hs (go network))
       → at_network o (earlier hs d) to ≡ heard_earlier hs (at_network o d go)
   network_earlier None d go to same = refl
   network_earlier (Some network) d go to same = same network
@@ -69,7 +69,7 @@ module _ (hs : List Heard) where
       links : (Source → ℤ) → Link → ℤ
       links values link = not_if link.negated (or_all (values link.first) (map values link.others))
 
-  outputs_same : (given : List Output') (id : ℕ) (inner : Path) (d : Diagram) (ws : Wires) → take_outputs given id inner (earlier hs d) ws ≡ take_outputs given id inner d ws
+  outputs_same : (given : List OutputPin) (id : ℕ) (inner : Path) (d : Diagram) (ws : Wires) → take_outputs given id inner (earlier hs d) ws ≡ take_outputs given id inner d ws
   outputs_same [] id inner d ws = refl
   outputs_same (o ∷ given) id inner d ws = outputs_same given id inner d (fix ws id o.name (not_if o.negated (d.store (folded o.name ∷ inner))))
 
@@ -95,7 +95,7 @@ module _ (hs : List Heard) where
   coil_earlier RisingCoil leaf p id v d = refl
   coil_earlier FallingCoil leaf p id v d = refl
 
-  inputs_earlier : (inputs : List Input) (inner : Path) (values : Link → ℤ) (d : Diagram) → store_inputs inputs inner values (earlier hs d) ≡ earlier hs (store_inputs inputs inner values d)
+  inputs_earlier : (inputs : List InputPin) (inner : Path) (values : Link → ℤ) (d : Diagram) → store_inputs inputs inner values (earlier hs d) ≡ earlier hs (store_inputs inputs inner values d)
   inputs_earlier [] inner values d = refl
   inputs_earlier (i ∷ is) inner values d = inputs_earlier is inner values (set_leaf d (folded i.name ∷ inner) (values i.link))
 
@@ -107,7 +107,7 @@ module _ (hs : List Heard) where
   hear_earlier more d = ap (λ all. record d { heard = all }) (append_assoc hs d.heard more)
 
   module _ (c : Setting) (adds : CallAdds c.called) where
-    call_earlier : (instance type : List ℕ) (v : ℤ) (inputs : List Input) (in_outs : List InOut) (values : Link → ℤ) (d : Diagram) → Adds (call_does instance type v inputs in_outs c values) d
+    call_earlier : (instance type : List ℕ) (v : ℤ) (inputs : List InputPin) (in_outs : List InOutPin) (values : Link → ℤ) (d : Diagram) → Adds (call_does instance type v inputs in_outs c values) d
     call_earlier instance type v inputs in_outs values d =
         let inner : Site = record { path = folded instance ∷ c.site.path; bound = bind in_outs (leaf_named c.variables c.site) } in
         if_earlier (is_true v) _ _ _ _
@@ -115,7 +115,7 @@ module _ (hs : List Heard) where
         refl
 
     -- an element, whose links have equal values
-    kind_by : (k : Kind) (id : ℕ) (d : Diagram) (ws : Wires) → link_value c.site.path (earlier hs d) ws ≡ link_value c.site.path d ws → Adds (λ e. kind_does k id c e ws) d
+    kind_by : (k : ElementKind) (id : ℕ) (d : Diagram) (ws : Wires) → link_value c.site.path (earlier hs d) ws ≡ link_value c.site.path d ws → Adds (λ e. kind_does k id c e ws) d
     kind_by Still id d ws e = refl
     kind_by (In t negated operand) id d ws e = refl
     kind_by (Out how x link) id d ws e =
@@ -151,31 +151,31 @@ module _ (hs : List Heard) where
         gives : ℤ → Diagram → Unit {0} → Outcome Diagram Wires
         gives v d' u = Ended d' (turn (eno_negated enable) id (codes "ENO") (take_outputs outputs id (folded instance ∷ c.site.path) d' (fix_eno enable id v ws)))
 
-    kind_earlier : (k : Kind) (id : ℕ) (d : Diagram) (ws : Wires) → Adds (λ e. kind_does k id c e ws) d
+    kind_earlier : (k : ElementKind) (id : ℕ) (d : Diagram) (ws : Wires) → Adds (λ e. kind_does k id c e ws) d
     kind_earlier k id d ws = kind_by k id d ws (links_same c.site.path d ws)
 
-    element_earlier : (e : Element) (d : Diagram) (ws : Wires) → Adds (λ g. element_does e c g ws) d
+    element_earlier : (e : DiagramElement) (d : Diagram) (ws : Wires) → Adds (λ g. element_does e c g ws) d
     element_earlier e d ws =
         then_earlier _ _ _ (kind_earlier e.kind e.id d ws) (λ d' ws'.
         let more = outputs_heard c.pou e.id 0 (ports e.kind) ws' in
         ap (λ g. Ended (hear more g) ws') (feed_earlier e.id e.fed c.site.path ws' d') ∙ ap (λ g. Ended g ws') (hear_earlier more (feed e.id e.fed c.site.path ws' d')))
 
-    pub elements_earlier : (es : List Element) (d : Diagram) (ws : Wires) → Adds (λ g. elements_do es c g ws) d
+    pub elements_earlier : (es : List DiagramElement) (d : Diagram) (ws : Wires) → Adds (λ g. elements_do es c g ws) d
     elements_earlier [] d ws = refl
     elements_earlier (e ∷ es) d ws = then_earlier _ _ _ (element_earlier e d ws) (λ d' ws'. elements_earlier es d' ws')
 
-    straight_earlier : (networks : List (List Element)) (d : Diagram) → Adds (straight networks c) d
+    straight_earlier : (networks : List (List DiagramElement)) (d : Diagram) → Adds (straight networks c) d
     straight_earlier [] d = refl
     straight_earlier (es ∷ networks) d = then_earlier _ _ _ (elements_earlier es d no_wires) (λ d' ws. straight_earlier networks d')
 
-    jumping_earlier : (networks : List (List Element)) (n i : ℕ) (d : Diagram) → Adds (jumping n networks c i) d
+    jumping_earlier : (networks : List (List DiagramElement)) (n i : ℕ) (d : Diagram) → Adds (jumping n networks c i) d
     jumping_earlier networks zero i d = network_earlier (slice_get networks i) d _ _ (λ network. refl)
     jumping_earlier networks (suc n) i d =
         network_earlier (slice_get networks i) d _ _ (λ network.
         spend_earlier d.left d _ _ (λ left.
         then_earlier _ _ _ (elements_earlier network (record d { left = left }) no_wires) (λ d' ws. jumping_earlier networks n (successor networks network (i + 1) ws) d')))
 
-    body_earlier : (networks : List (List Element)) (d : Diagram) → Adds (body_does networks c) d
+    body_earlier : (networks : List (List DiagramElement)) (d : Diagram) → Adds (body_does networks c) d
     body_earlier networks d = if_earlier (has_jump networks) _ _ _ _ (jumping_earlier networks d.left 0 d) (straight_earlier networks d)
 
   standard_earlier : (time : ℕ) (users : Called) → CallAdds users → CallAdds (with_standard time users)
@@ -201,6 +201,6 @@ module _ (hs : List Heard) where
   program_earlier time project p d = pou_earlier project _ (blocks_earlier 16 time project) p _ d
 
 -- elements, wherever they stand in a project
-pub elements_law : (n time : ℕ) (project : Project) (c : Setting) → c.called ≡ with_standard time (blocks_do n time project) → (es : List Element) (hs : List Heard) (d : Diagram) (ws : Wires)
+pub elements_law : (n time : ℕ) (project : Project) (c : Setting) → c.called ≡ with_standard time (blocks_do n time project) → (es : List DiagramElement) (hs : List Heard) (d : Diagram) (ws : Wires)
     → elements_do es c (earlier hs d) ws ≡ heard_earlier hs (elements_do es c d ws)
 elements_law n time project c e es hs d ws = elements_earlier hs c (subst (CallAdds hs) (sym e) (blocks_earlier hs n time project)) es d ws

@@ -1,4 +1,5 @@
 pub mod Lists
+pub mod Fed
 pub mod FunctionValues
 pub mod Alike
 pub mod Asked
@@ -22,6 +23,8 @@ pub mod Units
 pub mod Nesting
 pub mod Layouts
 pub mod Declared
+pub mod Times
+pub mod Starts
 pub mod Events
 pub mod Traced
 pub mod Turns

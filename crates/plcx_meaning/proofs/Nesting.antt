@@ -9,13 +9,13 @@ use Rattle.plcx_std.specs.Kind.{kind_named}
 use Rattle.plcx_meaning.specs.Base.{Site, top, Ended, then_do, found}
 use Rattle.plcx_meaning.specs.Layout.{Variable, variables_of, variable_named}
 use Rattle.plcx_meaning.specs.Standard.{called}
-use Rattle.plcx_meaning.specs.Diagram.{Element, Pou, Project, block_named}
+use Rattle.plcx_meaning.specs.Diagram.{DiagramElement, Pou, Project, block_named}
 use Rattle.plcx_meaning.specs.Evaluate.{Diagram, Called, body_does, with_standard, place_named, pou_does, blocks_do, program_does}
 use Rattle.plcx_meaning.specs.Execute.{Run, Frame, fresh, Here, Invoked, run_list, run_pou, blocks_run, program_runs, world_of}
 use Rattle.plcx_meaning.specs.Execute as text
 use Rattle.plcx_meaning.specs.Templates.{body_text, pou_text, unit_of}
 use Rattle.plcx_meaning.specs.Same.{Agree}
-use Rattle.plcx_meaning.specs.Fits.{is_known, VariableFits, PouFits, Nests, ProjectFits}
+use Rattle.plcx_meaning.specs.Fits.{project_knows, VariableFits, PouFits, PouNests, ProjectFits}
 use Rattle.plcx_meaning.proofs.Alike.{Alike, Nothing, both_end, alike_then, alike_as, alike_from}
 use Rattle.plcx_meaning.proofs.Asked.{IsDeclared, BodyAsked, CallsAlike, ElementsAlike}
 use Rattle.plcx_meaning.proofs.Lists.{each_at}
@@ -29,7 +29,7 @@ use Rattle.plcx_meaning.proofs.Statics.{here}
 use Rattle.plcx_meaning.proofs.StaticsBodies.{ask_body}
 
 -- a body as an instance
-pub pou_alike : (c : Here) (pou : ℕ) (vs : List Variable) (does : Called) (call : Invoked) (networks : List (List Element)) → ElementsAlike c pou vs does call → BodyAsked c vs networks
+pub pou_alike : (c : Here) (pou : ℕ) (vs : List Variable) (does : Called) (call : Invoked) (networks : List (List DiagramElement)) → ElementsAlike c pou vs does call → BodyAsked c vs networks
     → (d : Diagram) (g : Run) (f : Frame) → Agree d g
     → Alike Nothing (body_does networks (record { pou = pou; variables = vs; site = c.site; called = does }) d) (then_do (run_list (body_text networks) c call g f) (λ h l. Ended h tt))
 pou_alike c pou vs does call networks elements asked d g f a =
@@ -53,7 +53,7 @@ standard_alike time vs does call users i v named composite site declared d g a =
     by_kind None e = users i v named composite e site declared d g a
 
 -- a type that is none of the project's is no type of a variable
-unknown : (project : Project) (name : List ℕ) → type_named name ≡ None → kind_named name ≡ None → block_named name project ≡ None → is_known project name ≡ false
+unknown : (project : Project) (name : List ℕ) → type_named name ≡ None → kind_named name ≡ None → block_named name project ≡ None → project_knows project name ≡ false
 unknown project name t k b = rw (t, k, b) refl
 
 module _ (project : Project) (fits : ProjectFits project) (time : ℕ) where
@@ -65,7 +65,7 @@ module _ (project : Project) (fits : ProjectFits project) (time : ℕ) where
       pou_alike (here project q site) (place_named q.name project) (variables_of q.lists) does call q.networks (elements_alike (here project q site) (place_named q.name project) (variables_of q.lists) does call declared calls) (ask_body project q fits there site declared)
       d g (fresh (variables_of (pou_text q).blocks)) a
 
-  users_alike : (n : ℕ) (p : Pou) → Contains project p → Nests n project p → UsersAlike (variables_of p.lists) (blocks_do n time project) (blocks_run n time (unit_of project))
+  users_alike : (n : ℕ) (p : Pou) → Contains project p → PouNests n project p → UsersAlike (variables_of p.lists) (blocks_do n time project) (blocks_run n time (unit_of project))
   users_alike zero p there nests i v named composite user site declared d g a =
       let variable = each_at (VariableFits project) (variables_of p.lists) v (each_at (PouFits project) project p fits.pous there).variables (variable_there (folded i) (variables_of p.lists) v named) in
       absurd (true≢false (sym variable.known ∙ unknown project v.ty composite user (nests (folded i) v named composite user)))
@@ -80,7 +80,7 @@ module _ (project : Project) (fits : ProjectFits project) (time : ℕ) where
       (user_alike q within (with_standard time (blocks_do n time project)) (text.with_standard time (blocks_run n time (unit_of project))) calls site declared d g a))
 
   -- the blocks of the instances of a POU, with so many levels of them below
-  pub blocks_alike : (n : ℕ) (p : Pou) → Contains project p → Nests n project p
+  pub blocks_alike : (n : ℕ) (p : Pou) → Contains project p → PouNests n project p
       → CallsAlike (variables_of p.lists) (with_standard time (blocks_do n time project)) (text.with_standard time (blocks_run n time (unit_of project)))
   blocks_alike n p there nests = standard_alike time (variables_of p.lists) (blocks_do n time project) (blocks_run n time (unit_of project)) (users_alike n p there nests)
 
@@ -88,4 +88,4 @@ module _ (project : Project) (fits : ProjectFits project) (time : ℕ) where
   pub program_alike : (p : Pou) → Contains project p → (d : Diagram) (g : Run) → Agree d g → Alike Nothing (program_does time project p d) (program_runs time (unit_of project) (pou_text p) g)
   program_alike p there d g a =
       user_alike p there (with_standard time (blocks_do 16 time project)) (text.with_standard time (blocks_run 16 time (unit_of project)))
-      (blocks_alike 16 p there (each_at (Nests 16 project) project p fits.nests there)) top (record { path = refl; bound = λ key. refl }) d g a
+      (blocks_alike 16 p there (each_at (PouNests 16 project) project p fits.nests there)) top (record { path = refl; bound = λ key. refl }) d g a

@@ -10,7 +10,7 @@ use Rattle.plcx_meaning.specs.Layout.{Variable}
 use Rattle.plcx_meaning.specs.Functions.{Given}
 use Rattle.plcx_meaning.specs.Diagram.{Storing, Stored, Inverted, Set, Reset, Contacting, Open, Closed, RisingContact, FallingContact, Coiling, By, RisingCoil, FallingCoil, Operand, Port, port}
 use Rattle.plcx_meaning.specs.Evaluate.{Diagram, Wires, fix, set_leaf, leaf_named, operand_leaf, store_by, contact_value, contact_does, coil_does}
-use Rattle.plcx_meaning.specs.Execute.{Temporary, Kept, Here, place_of, Run, Frame, hold, value_of, Invoked, run_statements, run_list}
+use Rattle.plcx_meaning.specs.Execute.{Temporary, Kept, Here, referent_of, Run, Frame, hold, value_of, Invoked, run_statements, run_list}
 use Rattle.plcx_meaning.specs.Templates.{wire_name, memory_name, wire, memory, truth, both, store_text, contact_text, contact_edge, coil_text, operand_text}
 use Rattle.plcx_meaning.specs.Same.{Agree}
 use Rattle.plcx_meaning.proofs.Alike.{Alike, both_end, alike_as}
@@ -39,7 +39,7 @@ held f x n = ap (λ b. if b then n else f (folded x)) (bytes_self (folded x))
 module _ (c : Here) (vs : List Variable) (call : Invoked) (site : IsDeclared c.site) where
   -- a wire gets a value that is known
   pub fix_alike : (id : ℕ) → id < 2 ^ 64 → (o : Port) (e : Expression) (n : ℤ) (done : List (ℕ × Port)) (d : Diagram) (ws : Wires) (g : Run) (f : Frame)
-      → place_of c (wire_name id o.pin) ≡ Temporary o.ty → Agree d g → SameWires done ws f → value_of e c g.store f ≡ Given (value o.ty n)
+      → referent_of c (wire_name id o.pin) ≡ Temporary o.ty → Agree d g → SameWires done ws f → value_of e c g.store f ≡ Given (value o.ty n)
       → Alike (SameWires ((id, o) ∷ done)) (Ended d (fix ws id o.pin n)) (run_list (Assign (wire_name id o.pin) e ∷ []) c call g f)
   fix_alike id small o e n done d ws g f place a same known =
       alike_as _ _ (then_ended _ ∙ assign_temporary c call g f (wire_name id o.pin) e o.ty n place known) (both_end a (wires_fix id small o n done ws f same))
@@ -68,7 +68,7 @@ module _ (c : Here) (vs : List Variable) (call : Invoked) (site : IsDeclared c.s
       alike_as _ _ (then_ended _ ∙ rw (is)) (set_alike (is_true n) false (pos 0) x done d ws g f refl (subst (λ u. VariableAsked c vs x u) suits asked) a same)
 
   contact_known : (how : Contacting) (id : ℕ) (l v : Expression) (n m : ℤ) (d : Diagram) (g : Run) (f : Frame) → Agree d g
-      → (contacts_edge how ≡ true → place_of c (memory_name (AtEdge id)) ≡ Kept ty.Bool)
+      → (contacts_edge how ≡ true → referent_of c (memory_name (AtEdge id)) ≡ Kept ty.Bool)
       → value_of l c g.store f ≡ Given (value ty.Bool n) → value_of v c g.store f ≡ Given (value ty.Bool m)
       → value_of (contact_text how l v (memory (AtEdge id))) c g.store f ≡ Given (value ty.Bool (contact_value how n m (d.memories c.site.path (AtEdge id))))
   contact_known Open id l v n m d g f a place kl kv = and_known c g.store f l v n m kl kv
@@ -82,7 +82,7 @@ module _ (c : Here) (vs : List Variable) (call : Invoked) (site : IsDeclared c.s
 
   -- an edge is remembered, in the frame behind the wire
   contact_edge_alike : (how : Contacting) (id : ℕ) → id < 2 ^ 64 → (v : Expression) (m : ℤ) (done : List (ℕ × Port)) (d : Diagram) (ws : Wires) (g : Run) (f : Frame) → Agree d g → SameWires done ws f
-      → (contacts_edge how ≡ true → place_of c (memory_name (AtEdge id)) ≡ Kept ty.Bool) → value_of v c g.store f ≡ Given (value ty.Bool m)
+      → (contacts_edge how ≡ true → referent_of c (memory_name (AtEdge id)) ≡ Kept ty.Bool) → value_of v c g.store f ≡ Given (value ty.Bool m)
       → Alike (SameWires done) (Ended (contact_does how c.site.path id m d) ws) (run_list (contact_edge how (AtEdge id) v) c call g f)
   contact_edge_alike Open id small v m done d ws g f a same place known = both_end a same
   contact_edge_alike Closed id small v m done d ws g f a same place known = both_end a same
@@ -92,7 +92,7 @@ module _ (c : Here) (vs : List Variable) (call : Invoked) (site : IsDeclared c.s
       alike_as _ _ (then_ended _ ∙ assign_memory c call g f (AtEdge id) v ty.Bool m (place refl) known) (both_end (agree_memory d g c.site.path (AtEdge id) m small a) same)
 
   pub contact_alike : (how : Contacting) (id : ℕ) → id < 2 ^ 64 → (operand : Operand) (l : Expression) (n : ℤ) (done : List (ℕ × Port)) (d : Diagram) (ws : Wires) (g : Run) (f : Frame)
-      → place_of c (wire_name id []) ≡ Temporary ty.Bool → (contacts_edge how ≡ true → place_of c (memory_name (AtEdge id)) ≡ Kept ty.Bool) → OperandAsked c vs operand ty.Bool
+      → referent_of c (wire_name id []) ≡ Temporary ty.Bool → (contacts_edge how ≡ true → referent_of c (memory_name (AtEdge id)) ≡ Kept ty.Bool) → OperandAsked c vs operand ty.Bool
       → Agree d g → SameWires done ws f → value_of l c g.store f ≡ Given (value ty.Bool n)
       → Alike (SameWires ((id, port [] ty.Bool) ∷ done))
       (Ended (contact_does how c.site.path id (d.store (operand_leaf vs c.site operand)) d) (fix ws id [] (contact_value how n (d.store (operand_leaf vs c.site operand)) (d.memories c.site.path (AtEdge id)))))
@@ -108,7 +108,7 @@ module _ (c : Here) (vs : List Variable) (call : Invoked) (site : IsDeclared c.s
 
   -- what a coil does behind its wire, whose value is n
   coil_behind : (how : Coiling) (x : List ℕ) (id : ℕ) → id < 2 ^ 64 → (n : ℤ) (done : List (ℕ × Port)) (d : Diagram) (ws : Wires) (g : Run) (f : Frame)
-      → (coils_edge how ≡ true → place_of c (memory_name (AtEdge id)) ≡ Kept ty.Bool) → VariableAsked c vs x ty.Bool → Agree d g → SameWires done ws f
+      → (coils_edge how ≡ true → referent_of c (memory_name (AtEdge id)) ≡ Kept ty.Bool) → VariableAsked c vs x ty.Bool → Agree d g → SameWires done ws f
       → ((h : Run) → value_of (wire id []) c h.store f ≡ Given (value ty.Bool n))
       → Alike (SameWires done) (Ended (coil_does how (leaf_named vs c.site x) c.site.path id n d) ws) (run_list (coil_text how x (AtEdge id) (wire id [])) c call g f)
   coil_behind (By Stored) x id small n done d ws g f edge_at asked a same known = store_alike Stored x ty.Bool (wire id []) n done d ws g f asked tt a same (known g)
@@ -139,7 +139,7 @@ module _ (c : Here) (vs : List Variable) (call : Invoked) (site : IsDeclared c.s
       (both_end (agree_memory (set_leaf d leaf v) g' c.site.path (AtEdge id) n small (agree_set d g leaf v asked.declared a)) same)
 
   pub coil_alike : (how : Coiling) (x : List ℕ) (id : ℕ) → id < 2 ^ 64 → (l : Expression) (n : ℤ) (done : List (ℕ × Port)) (d : Diagram) (ws : Wires) (g : Run) (f : Frame)
-      → place_of c (wire_name id []) ≡ Temporary ty.Bool → (coils_edge how ≡ true → place_of c (memory_name (AtEdge id)) ≡ Kept ty.Bool) → VariableAsked c vs x ty.Bool
+      → referent_of c (wire_name id []) ≡ Temporary ty.Bool → (coils_edge how ≡ true → referent_of c (memory_name (AtEdge id)) ≡ Kept ty.Bool) → VariableAsked c vs x ty.Bool
       → Agree d g → SameWires done ws f → value_of l c g.store f ≡ Given (value ty.Bool n)
       → Alike (SameWires ((id, port [] ty.Bool) ∷ done)) (Ended (coil_does how (leaf_named vs c.site x) c.site.path id n d) (fix ws id [] n))
       (run_list (Assign (wire_name id []) l ∷ coil_text how x (AtEdge id) (wire id [])) c call g f)

@@ -17,8 +17,8 @@ use Rattle.plcx_meaning.specs.Base.{Path, OutOfTurns, Outcome, Ended, Stopped, S
 use Rattle.plcx_meaning.specs.Tree.{Class, Local, Input, Output, InOut, Temp, Expression, Number, Name, Member, Apply, Not, Binary, Expressions, no_expression, expression}
 use Rattle.plcx_meaning.specs.Layout.{Variable, World, Meaning, Elementary, Composed, meaning, Scope}
 use Rattle.plcx_meaning.specs.Functions.{Answer, Given, Faulty, Missing, on_value, can_apply, out_type, group_of, answer, call_at, call_function, call_named}
-use Rattle.plcx_meaning.specs.Execute.{Place, Temporary, Kept, Bound, Instance, Unknown, Here, Run, Frame, read, read_member, read_output, function_of, value_of, values_of, with_value, with_truth, assign, turns}
-use Rattle.plcx_meaning.specs.Typed.{place_type, read_type, member_type, is_operator, type_at, result_type, call_type, expression_type, expression_types, part_in}
+use Rattle.plcx_meaning.specs.Execute.{Referent, Temporary, Kept, Bound, Instance, Unknown, Here, Run, Frame, read, read_member, read_output, function_of, value_of, values_of, with_value, with_truth, assign, turns}
+use Rattle.plcx_meaning.specs.Typed.{referent_type, read_type, member_type, is_operator, type_at, result_type, call_type, expression_type, expression_types, part_in}
 
 -- a value with this property, or a fault
 abbrev pub HoldsAt : {A : Type 0} → (A → Type 0) → Answer A → Type 0
@@ -74,7 +74,7 @@ named_good (Some f) vs types t same h = by_test (is_operator f) h
     by_test false e = call_good f vs types t same e
 
 -- names and members
-read_good : (p : Place) (x : List ℕ) (site : Site) (s : Path → ℤ) (f : Frame) (t : Ty) → place_type p ≡ Some t → Good t (read p x site s f)
+read_good : (p : Referent) (x : List ℕ) (site : Site) (s : Path → ℤ) (f : Frame) (t : Ty) → referent_type p ≡ Some t → Good t (read p x site s f)
 read_good (Temporary u) x site s f t h = record { is = cc }
 read_good (Kept u) x site s f t h = record { is = cc }
 read_good (Bound u) x site s f t h = record { is = cc }
@@ -166,7 +166,7 @@ goes_spend : {L : Type 0} (n : ℕ) (g : Run) (go : ℕ → Outcome Run L) → (
 goes_spend zero g go h = record { is = tt }
 goes_spend (suc n) g go h = h n
 
-pub assign_goes : (p : Place) (x : List ℕ) (site : Site) (v : Value) (g : Run) (f : Frame) (t : Ty) → place_type p ≡ Some t → v.ty ≡ t → Goes (assign p x site v g f)
+pub assign_goes : (p : Referent) (x : List ℕ) (site : Site) (v : Value) (g : Run) (f : Frame) (t : Ty) → referent_type p ≡ Some t → v.ty ≡ t → Goes (assign p x site v g f)
 assign_goes (Temporary u) x site v g f t h e = let same : v.ty ≡ u = cc in goes_typed v.ty u _ same (goes_end _ _)
 assign_goes (Kept u) x site v g f t h e = let same : v.ty ≡ u = cc in goes_typed v.ty u _ same (goes_end _ _)
 assign_goes (Bound u) x site v g f t h e = let same : v.ty ≡ u = cc in goes_typed v.ty u _ same (goes_end _ _)

@@ -16,7 +16,7 @@ use Rattle.plcx_meaning.specs.Layout.{Variable, variables_of, variable_named, Wo
 use Rattle.plcx_meaning.specs.Standard.{called}
 use Rattle.plcx_meaning.specs.Run as run
 use Rattle.plcx_meaning.specs.Run.{put_inputs, Machine}
-use Rattle.plcx_meaning.specs.Diagram.{Source, Rail, Literal, Wire, Back, Link, Operand, Own, Output, Storing, Stored, Inverted, Set, Reset, Contacting, Open, Closed, RisingContact, FallingContact, Coiling, By, RisingCoil, FallingCoil, Enable, has_eno, eno_negated, Input, InOut, Output', Kind, Still, In, Out, Contact, Coil, Pass, Label, Jump, Return, Function, Call, Port, ports, Element, Pou, Project, has_jump, target, block_named}
+use Rattle.plcx_meaning.specs.Diagram.{Source, Rail, Literal, Wire, Back, Link, Operand, Own, Output, Storing, Stored, Inverted, Set, Reset, Contacting, Open, Closed, RisingContact, FallingContact, Coiling, By, RisingCoil, FallingCoil, Enable, has_eno, eno_negated, InputPin, InOutPin, OutputPin, ElementKind, Still, In, Out, Contact, Coil, Pass, Label, Jump, Return, Function, Call, Port, ports, DiagramElement, Pou, Project, has_jump, target, block_named}
 
 -- An output that a watch hears of: the place of the POU in the project, the element, the number of the wire among the element's, and its value.
 pub record Heard : Type 0 where
@@ -123,17 +123,17 @@ abbrev pub function_result : Func → Ty → List Link → ℤ → (Link → ℤ
 function_result f t inputs v values = if is_true v then applied f t (map (λ l. value l.ty (values l)) inputs) else Ok (value t (pos 0))
 
 -- a call stores its connected inputs in the instance
-abbrev pub store_inputs : List Input → Path → (Link → ℤ) → Diagram → Diagram
+abbrev pub store_inputs : List InputPin → Path → (Link → ℤ) → Diagram → Diagram
 store_inputs [] inner values d = d
 store_inputs (i ∷ is) inner values d = store_inputs is inner values (set_leaf d (folded i.name ∷ inner) (values i.link))
 
 -- its in-outs stand for the leaves of their variables
-abbrev pub bind : List InOut → (List ℕ → Path) → List ℕ → Path
+abbrev pub bind : List InOutPin → (List ℕ → Path) → List ℕ → Path
 bind [] leaf key = []
 bind (i ∷ is) leaf key = if bytes_eq (folded i.name) key then leaf i.variable else bind is leaf key
 
 -- and its wires are the stored outputs
-abbrev pub take_outputs : List Output' → ℕ → Path → Diagram → Wires → Wires
+abbrev pub take_outputs : List OutputPin → ℕ → Path → Diagram → Wires → Wires
 take_outputs [] id inner d ws = ws
 take_outputs (o ∷ os) id inner d ws = take_outputs os id inner d (fix ws id o.name (not_if o.negated (d.store (folded o.name ∷ inner))))
 
@@ -149,14 +149,14 @@ pub record Setting : Type 0 where
   pub called : Called
 
 -- a block is stored to and evaluated only where EN is not FALSE
-abbrev pub call_does : List ℕ → List ℕ → ℤ → List Input → List InOut → Setting → (Link → ℤ) → Diagram → Outcome Diagram (Unit {0})
+abbrev pub call_does : List ℕ → List ℕ → ℤ → List InputPin → List InOutPin → Setting → (Link → ℤ) → Diagram → Outcome Diagram (Unit {0})
 call_does instance type v inputs in_outs c values d =
     if is_true v
     then c.called type (record { path = folded instance ∷ c.site.path; bound = bind in_outs (leaf_named c.variables c.site) }) (store_inputs inputs (folded instance ∷ c.site.path) values d)
     else Ended d tt
 
 -- the effect of an element of this number
-abbrev pub kind_does : Kind → ℕ → Setting → Diagram → Wires → Outcome Diagram Wires
+abbrev pub kind_does : ElementKind → ℕ → Setting → Diagram → Wires → Outcome Diagram Wires
 kind_does Still id c d ws = Ended d ws
 kind_does (In t negated operand) id c d ws = Ended d (fix ws id [] (not_if negated (d.store (operand_leaf c.variables c.site operand))))
 kind_does (Out how x link) id c d ws = Ended (store_by how (leaf_named c.variables c.site x) (link_value c.site.path d ws link) d) ws
@@ -199,20 +199,20 @@ abbrev pub hear : List Heard → Diagram → Diagram
 hear hs d = record d { heard = d.heard ++ hs }
 
 -- a watch hears of an element once it has been evaluated to its end, of each output in the order of its wires
-abbrev pub element_does : Element → Setting → Diagram → Wires → Outcome Diagram Wires
+abbrev pub element_does : DiagramElement → Setting → Diagram → Wires → Outcome Diagram Wires
 element_does e c d ws = then_do (kind_does e.kind e.id c d ws) (λ d' ws'. Ended (hear (outputs_heard c.pou e.id 0 (ports e.kind) ws') (feed e.id e.fed c.site.path ws' d')) ws')
 
-abbrev pub elements_do : List Element → Setting → Diagram → Wires → Outcome Diagram Wires
+abbrev pub elements_do : List DiagramElement → Setting → Diagram → Wires → Outcome Diagram Wires
 elements_do [] c d ws = Ended d ws
 elements_do (e ∷ es) c d ws = then_do (element_does e c d ws) (λ d' ws'. elements_do es c d' ws')
 
 -- a body without jump and return: its networks once, in order; each fixes its wires anew
-abbrev pub straight : List (List Element) → Setting → Diagram → Outcome Diagram (Unit {0})
+abbrev pub straight : List (List DiagramElement) → Setting → Diagram → Outcome Diagram (Unit {0})
 straight [] c d = Ended d tt
 straight (network ∷ networks) c d = then_do (elements_do network c d no_wires) (λ d' ws. straight networks c d')
 
 -- where a jump or a return leads: a jump to the network of its label, a return behind the last
-abbrev pub leads_to : List (List Element) → Kind → Option ℕ
+abbrev pub leads_to : List (List DiagramElement) → ElementKind → Option ℕ
 leads_to networks (Jump label link) = Some (target label networks)
 leads_to networks (Return link) = Some (length networks)
 leads_to networks _ = None
@@ -222,24 +222,24 @@ chosen None v other = other
 chosen (Some n) v other = if is_true v then n else other
 
 -- the first jump or return whose condition is TRUE decides which network follows
-abbrev pub successor : List (List Element) → List Element → ℕ → Wires → ℕ
+abbrev pub successor : List (List DiagramElement) → List DiagramElement → ℕ → Wires → ℕ
 successor networks [] next ws = next
 successor networks (e ∷ es) next ws = chosen (leads_to networks e.kind) (ws e.id []) (successor networks es next ws)
 
-abbrev pub at_network : Option (List Element) → Diagram → (List Element → Outcome Diagram (Unit {0})) → Outcome Diagram (Unit {0})
+abbrev pub at_network : Option (List DiagramElement) → Diagram → (List DiagramElement → Outcome Diagram (Unit {0})) → Outcome Diagram (Unit {0})
 at_network None d go = Ended d tt
 at_network (Some network) d go = go network
 
 -- A body with a jump or a return, from a network on: each evaluation of a network costs one turn. The first number only bounds the
 -- recursion; it is the number of turns that are left.
-abbrev pub jumping : ℕ → List (List Element) → Setting → ℕ → Diagram → Outcome Diagram (Unit {0})
+abbrev pub jumping : ℕ → List (List DiagramElement) → Setting → ℕ → Diagram → Outcome Diagram (Unit {0})
 jumping zero networks c i d = at_network (slice_get networks i) d (λ network. Stopped OutOfTurns d)
 jumping (suc n) networks c i d =
     at_network (slice_get networks i) d (λ network.
     spend d.left d (λ left.
     then_do (elements_do network c (record d { left = left }) no_wires) (λ d' ws. jumping n networks c (successor networks network (i + 1) ws) d')))
 
-abbrev pub body_does : List (List Element) → Setting → Diagram → Outcome Diagram (Unit {0})
+abbrev pub body_does : List (List DiagramElement) → Setting → Diagram → Outcome Diagram (Unit {0})
 body_does networks c d = if has_jump networks then jumping d.left networks c 0 d else straight networks c d
 
 -- a standard block takes one step at the time of the scan, and others are evaluated as users say

@@ -6,13 +6,13 @@ use Rattle.plcx_meaning.specs.Base.{OutOfTurns}
 use Rattle.plcx_meaning.specs.Tree as tree
 use Rattle.plcx_meaning.specs.Tree.{Block, Statement, Assign, Name, Binary, Plus, Less, If, While, Case, statements, arms}
 use Rattle.plcx_meaning.specs.Run.{Event, TheEnd, Halted, TheStop}
-use Rattle.plcx_meaning.specs.Diagram.{Still, Element, Pou}
+use Rattle.plcx_meaning.specs.Diagram.{Still, DiagramElement, Pou}
 use Rattle.plcx_meaning.specs.Templates.{number, dint}
 use Rattle.plcx_meaning.specs.Traces.{Trace, line, trace_of}
 use Rattle.plcx_meaning.specs.Pieces.{variable, starting, instance_of, listed, element, main, block, literal, wire, result, where_true, both_by, reads, writes, label, jump, applies, calls, scan}
 
 -- X counts to 5, in three networks
-abbrev pub loop_elements : List Element
+abbrev pub loop_elements : List DiagramElement
 loop_elements =
     label 1 (codes "L")
     ∷ reads 2 ty.Int (codes "X")

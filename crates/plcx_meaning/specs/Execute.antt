@@ -21,25 +21,25 @@ use Rattle.plcx_meaning.specs.Diagram.{is_program}
 use Rattle.plcx_meaning.specs.Run.{put_inputs, Machine}
 
 -- what a name means: a temporary, a variable or an in-out of a type, or an instance of the type of a name
-pub data Place : Type 0 where
-  Temporary Kept Bound : Ty → Place
-  Instance : (type : List ℕ) → Place
-  Unknown : Place
+pub data Referent : Type 0 where
+  Temporary Kept Bound : Ty → Referent
+  Instance : (type : List ℕ) → Referent
+  Unknown : Referent
 
-abbrev pub elementary : Class → Ty → Place
+abbrev pub elementary : Class → Ty → Referent
 elementary Local t = Kept t
 elementary Input t = Kept t
 elementary Output t = Kept t
 elementary InOut t = Bound t
 elementary Temp t = Temporary t
 
-abbrev pub place_by : Meaning → Class → List ℕ → Place
-place_by (Elementary t) class type = elementary class t
-place_by (Composed vs) class type = Instance type
+abbrev pub referent_by : Meaning → Class → List ℕ → Referent
+referent_by (Elementary t) class type = elementary class t
+referent_by (Composed vs) class type = Instance type
 
-abbrev pub place : World → Option Variable → Place
-place world None = Unknown
-place world (Some v) = place_by (meaning world v.ty) v.class v.ty
+abbrev pub referent : World → Option Variable → Referent
+referent world None = Unknown
+referent world (Some v) = referent_by (meaning world v.ty) v.class v.ty
 
 -- where a statement stands: what types stand for, the variables of its POU, and its instance
 pub record Here : Type 0 where
@@ -47,8 +47,8 @@ pub record Here : Type 0 where
   pub variables : List Variable
   pub site : Site
 
-abbrev pub place_of : Here → List ℕ → Place
-place_of c x = place c.world (variable_named (folded x) c.variables)
+abbrev pub referent_of : Here → List ℕ → Referent
+referent_of c x = referent c.world (variable_named (folded x) c.variables)
 
 -- what a scan changes: the leaves, those of memories among them, and the turns that are left
 pub record Run : Type 0 where
@@ -76,14 +76,14 @@ abbrev pub with_truth : {L : Type 0} → Answer Value → Run → (Bool → Outc
 with_truth a g go = with_value a g (λ v. if same_ty v.ty ty.Bool then go (is_true v.n) else Stuck)
 
 -- the leaf that a name stands for, where it stands for one
-abbrev pub leaf_at : Place → List ℕ → Site → Path
+abbrev pub leaf_at : Referent → List ℕ → Site → Path
 leaf_at (Kept t) x site = folded x ∷ site.path
 leaf_at (Bound t) x site = site.bound (folded x)
 leaf_at (Temporary t) x site = []
 leaf_at (Instance type) x site = []
 leaf_at Unknown x site = []
 
-abbrev pub read : Place → List ℕ → Site → (Path → ℤ) → Frame → Answer Value
+abbrev pub read : Referent → List ℕ → Site → (Path → ℤ) → Frame → Answer Value
 read (Kept t) x site s f = Given (value t (s (folded x ∷ site.path)))
 read (Bound t) x site s f = Given (value t (s (site.bound (folded x))))
 read (Temporary t) x site s f = Given (value t (f (folded x)))
@@ -124,7 +124,7 @@ function_of Mod = func.Mod
 abbrev mutual
   pub value_of : Expression → Here → (Path → ℤ) → Frame → Answer Value
   value_of (Number v) c s f = Given v
-  value_of (Name x) c s f = read (place_of c x) x c.site s f
+  value_of (Name x) c s f = read (referent_of c x) x c.site s f
   value_of (Member i x) c s f = read_output c.world (variable_named (folded x) (parts_named c i)) (folded x ∷ folded i ∷ c.site.path) s
   value_of (Apply x es) c s f = on_value (values_of es c s f) (call_named (function_named x))
   value_of (Not e) c s f = on_value (value_of e c s f) (λ v. call_function func.Not (v ∷ []))
@@ -135,7 +135,7 @@ abbrev mutual
   values_of (expression e es) c s f = on_value (value_of e c s f) (λ v. on_value (values_of es c s f) (λ vs. Given (v ∷ vs)))
 
 -- a value goes to a place of its type
-abbrev pub assign : Place → List ℕ → Site → Value → Run → Frame → Outcome Run Frame
+abbrev pub assign : Referent → List ℕ → Site → Value → Run → Frame → Outcome Run Frame
 assign (Kept t) x site v g f = if same_ty v.ty t then Ended (record g { store = put g.store (folded x ∷ site.path) v.n }) f else Stuck
 assign (Bound t) x site v g f = if same_ty v.ty t then Ended (record g { store = put g.store (site.bound (folded x)) v.n }) f else Stuck
 assign (Temporary t) x site v g f = if same_ty v.ty t then Ended g (hold f x v.n) else Stuck
@@ -160,21 +160,21 @@ formal world (Some v) = formal_by (meaning world v.ty) v.class
 abbrev pub formal_named : Here → List ℕ → List ℕ → Formal
 formal_named c i x = formal c.world (variable_named (folded x) (parts_named c i))
 
-abbrev pub has_leaf : Place → Ty → Bool
+abbrev pub has_leaf : Referent → Ty → Bool
 has_leaf (Kept u) t = same_ty u t
 has_leaf (Bound u) t = same_ty u t
 has_leaf (Temporary u) t = false
 has_leaf (Instance type) t = false
 has_leaf Unknown t = false
 
-abbrev pub place_in : Here → Expression → Place
-place_in c (Name x) = place_of c x
-place_in c _ = Unknown
+abbrev pub referent_in : Here → Expression → Referent
+referent_in c (Name x) = referent_of c x
+referent_in c _ = Unknown
 
 -- An input gets the value of its argument, and an in-out is bound to a variable of its type. All values are taken in the state before the call.
 abbrev pub store_argument : Formal → Argument → Here → Path → Run → Frame → Run → (Run → Outcome Run Frame) → Outcome Run Frame
 store_argument (Takes t) a c p old f g go = with_value (value_of a.value c old.store f) old (λ v. if same_ty v.ty t then go (record g { store = put g.store p v.n }) else Stuck)
-store_argument (Binds t) a c p old f g go = if has_leaf (place_in c a.value) t then go g else Stuck
+store_argument (Binds t) a c p old f g go = if has_leaf (referent_in c a.value) t then go g else Stuck
 store_argument NoFormal a c p old f g go = Stuck
 
 abbrev pub store_arguments : List Argument → Here → List ℕ → Run → Frame → Run → (Run → Outcome Run Frame) → Outcome Run Frame
@@ -183,7 +183,7 @@ store_arguments (a ∷ rest) c i old f g go =
     store_argument (formal_named c i a.formal) a c (folded a.formal ∷ folded i ∷ c.site.path) old f g (λ h. store_arguments rest c i old f h go)
 
 abbrev pub leaf_of : Here → Expression → Path
-leaf_of c (Name x) = leaf_at (place_of c x) x c.site
+leaf_of c (Name x) = leaf_at (referent_of c x) x c.site
 leaf_of c _ = []
 
 abbrev pub binds : Formal → Bool
@@ -203,7 +203,7 @@ is_bound args v = elim v.class [ InOut ↦ list_any (λ (a : Argument). bytes_eq
 abbrev pub all_bound : List Argument → List Variable → Bool
 all_bound args vs = list_all (is_bound args) vs
 
-abbrev pub type_of_instance : Place → Option (List ℕ)
+abbrev pub type_of_instance : Referent → Option (List ℕ)
 type_of_instance (Instance type) = Some type
 type_of_instance (Kept t) = None
 type_of_instance (Bound t) = None
@@ -217,7 +217,7 @@ Invoked = List ℕ → Site → Run → Outcome Run (Unit {0})
 -- a call stores its inputs, binds its in-outs and runs the block; the temporaries of the caller stay
 abbrev pub invoke : List ℕ → List Argument → Here → Invoked → Run → Frame → Outcome Run Frame
 invoke i args c call g f =
-    found (type_of_instance (place_of c i)) (λ type.
+    found (type_of_instance (referent_of c i)) (λ type.
     if all_bound args (parts_named c i)
     then store_arguments args c i g f g (λ h. then_do (call type (record { path = folded i ∷ c.site.path; bound = bind args c i }) h) (λ k u. Ended k f))
     else Stuck)
@@ -235,7 +235,7 @@ is_label (negsuc m) n = false
 
 abbrev mutual
   pub run_statement : Statement → Here → Invoked → Run → Frame → Outcome Run Frame
-  run_statement (Assign x e) c call g f = with_value (value_of e c g.store f) g (λ v. assign (place_of c x) x c.site v g f)
+  run_statement (Assign x e) c call g f = with_value (value_of e c g.store f) g (λ v. assign (referent_of c x) x c.site v g f)
   run_statement (Call i args) c call g f = invoke i args c call g f
   run_statement (If e ss) c call g f = with_truth (value_of e c g.store f) g (λ b. if b then run_statements ss c call g f else Ended g f)
   run_statement (While e ss) c call g f = turns g.left (λ h l. value_of e c h.store l) (run_statements ss c call) g f

@@ -24,13 +24,13 @@ on_value (Faulty fault) go = Faulty fault
 on_value Missing go = Missing
 
 -- the input that tells the type of the group
-abbrev pub group_place : Func → ℕ
-group_place func.Sel = 1
-group_place func.Mux = 1
-group_place _ = 0
+abbrev pub group_index : Func → ℕ
+group_index func.Sel = 1
+group_index func.Mux = 1
+group_index _ = 0
 
 abbrev pub group_of : Func → List Ty → Option Ty
-group_of f types = slice_get types (group_place f)
+group_of f types = slice_get types (group_index f)
 
 -- inputs of these types, from this place on, suit a function at the type of its group
 abbrev pub all_suit : Func → Ty → ℕ → List Ty → Bool

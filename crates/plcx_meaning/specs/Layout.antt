@@ -9,7 +9,7 @@ use Rattle.plcx_types.specs.Reserved.{is_own}
 use Rattle.plcx_types.specs.TypeName.{type_named}
 use Rattle.plcx_types.specs.Value.{Value}
 use Rattle.plcx_std.specs.Kind.{kind_named}
-use Rattle.plcx_meaning.specs.Base.{Path, is_declared, Each}
+use Rattle.plcx_meaning.specs.Base.{Path, same_path, is_declared, Each}
 use Rattle.plcx_meaning.specs.Tree.{Class, Local, Input, Output, InOut, Temp, Mark, Plain, Constant, Retain, Declaration, Block}
 use Rattle.plcx_meaning.specs.Standard.{pin_blocks}
 
@@ -21,6 +21,10 @@ pub record Variable : Type 0 where
   -- the name of its type
   pub ty : List ℕ
   pub initial : Option Value
+
+-- an initial value is one of the variable's type, which is elementary
+abbrev pub InitialIsTyped : Variable → Type 0
+InitialIsTyped v = (value : Value) → v.initial ≡ Some value → (type_named v.ty ≡ Some value.ty) × InRange value.ty value.n
 
 abbrev pub variable : Class → Mark → Declaration → Variable
 variable class mark d = record { class = class; mark = mark; name = d.name; ty = d.ty; initial = d.initial }
@@ -101,8 +105,18 @@ abbrev pub is_retained : Scope → Path → Bool
 is_retained c [] = false
 is_retained c (x ∷ p) = is_retained c p || is_marked (variable_at c (x ∷ p))
 
+-- a path as it is declared, the innermost name first too
+abbrev pub Spelling : Type 0
+Spelling = List (List ℕ)
+
+-- and without case
+abbrev pub path_of : Spelling → Path
+path_of names = map folded names
+
+-- A leaf by its path, and how that is spelled where its names are declared. It is retained, settable from outside between scans, and shown.
 pub record Leaf : Type 0 where
   pub path : Path
+  pub spelled : Spelling
   pub ty : Ty
   pub initial : ℤ
   pub retained : Bool
@@ -120,8 +134,16 @@ is_outside [] = false
 is_outside (x ∷ []) = not (is_own x)
 is_outside (x ∷ y ∷ p) = false
 
-abbrev pub leaf_of : Scope → Path → Ty → Mark → Leaf
-leaf_of c p t mark = record { path = p; ty = t; initial = initial_at c p; retained = is_retained c p; settable = is_outside p && not (is_constant mark); shown = is_outside p }
+abbrev pub leaf_of : Scope → Spelling → Ty → Mark → Leaf
+leaf_of c names t mark = record {
+  path = path_of names;
+  spelled = names;
+  ty = t;
+  initial = initial_at c (path_of names);
+  retained = is_retained c (path_of names);
+  settable = is_outside (path_of names) && not (is_constant mark);
+  shown = is_outside (path_of names);
+}
 
 -- a variable that has a value of its own for as long as its instance: no in-out and no temporary
 abbrev pub is_kept : Class → Bool
@@ -131,16 +153,16 @@ is_kept Output = true
 is_kept InOut = false
 is_kept Temp = false
 
--- the leaves of a variable of the instance at a path; inner gives those of the variables of an instance
-abbrev pub variable_leaves : (Path → List Variable → List Leaf) → Scope → Path → Variable → List Leaf
-variable_leaves inner c p v = if is_kept v.class
-    then (elim (meaning c.world v.ty) [ Elementary t ↦ leaf_of c (folded v.name ∷ p) t v.mark ∷ [] | Composed vs ↦ inner (folded v.name ∷ p) vs ])
+-- the leaves of a variable of the instance whose path is spelled so; inner gives those of the variables of an instance
+abbrev pub variable_leaves : (Spelling → List Variable → List Leaf) → Scope → Spelling → Variable → List Leaf
+variable_leaves inner c names v = if is_kept v.class
+    then (elim (meaning c.world v.ty) [ Elementary t ↦ leaf_of c (v.name ∷ names) t v.mark ∷ [] | Composed vs ↦ inner (v.name ∷ names) vs ])
     else []
 
 -- the leaves of variables in their order, those of an instance in its place, so many levels deep
-abbrev pub leaves : ℕ → Scope → Path → List Variable → List Leaf
-leaves zero c p vs = []
-leaves (suc n) c p vs = flat_map (variable_leaves (leaves n c) c p) vs
+abbrev pub leaves : ℕ → Scope → Spelling → List Variable → List Leaf
+leaves zero c names vs = []
+leaves (suc n) c names vs = flat_map (variable_leaves (leaves n c) c names) vs
 
 -- a program has 16 levels of instances at most, and a standard block below them
 abbrev pub layout : Scope → List Leaf
@@ -149,6 +171,15 @@ layout c = leaves 18 c [] c.own
 -- the leaves that a declaration made, in order
 abbrev pub declared_leaves : List Leaf → List Leaf
 declared_leaves ls = filter (λ (leaf : Leaf). is_declared leaf.path) ls
+
+-- the path is the spelled one without case
+abbrev pub IsSpelled : Leaf → Type 0
+IsSpelled leaf = leaf.path ≡ path_of leaf.spelled
+
+-- the initial value of the leaf at a path, 0 where there is none: the retained state that changes no initial value
+abbrev pub initial_in : List Leaf → Path → ℤ
+initial_in [] p = pos 0
+initial_in (leaf ∷ ls) p = if same_path p leaf.path then leaf.initial else initial_in ls p
 
 -- what is settable or shown is declared
 abbrev pub IsOutside : Leaf → Type 0

@@ -28,5 +28,6 @@ pub mod ExampleLoops
 pub mod ExampleBlocks
 pub mod ExampleInOuts
 pub mod ExamplePins
+pub mod ExampleStarts
 pub mod ExampleWatch
 pub mod ReadyExamples

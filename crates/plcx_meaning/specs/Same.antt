@@ -4,7 +4,7 @@ use Rattle.plcx_types.specs.Name.{folded}
 use Rattle.plcx_meaning.specs.Base.{Path, is_declared, Memory}
 use Rattle.plcx_meaning.specs.Tree.{PouText}
 use Rattle.plcx_meaning.specs.Layout.{declared_leaves, IsRetainedState}
-use Rattle.plcx_meaning.specs.Run.{Event, Machine, Side, NoStep, tells, after, begin_side, AreEvents}
+use Rattle.plcx_meaning.specs.Run.{Event, Machine, Side, NoStep, tells, after, begin_side, CanFollow}
 use Rattle.plcx_meaning.specs.Diagram.{Pou, Project}
 use Rattle.plcx_meaning.specs.Diagram as diagram
 use Rattle.plcx_meaning.specs.Evaluate.{Diagram, diagram_machine}
@@ -28,7 +28,7 @@ SameRuns m k n (e ∷ es) s t =
 pub record IsSame {G H : Type 0} (m : Machine G) (k : Machine H) : Type 0 where
   pub layouts : declared_leaves m.layout ≡ declared_leaves k.layout
   pub begins : (kept : Path → ℤ) → SameValues m k (begin_side m kept) (begin_side k kept)
-  pub runs : (kept : Path → ℤ) → IsRetainedState m.layout kept → (es : List Event) → AreEvents m.layout 0 es → (turns : ℕ)
+  pub runs : (kept : Path → ℤ) → IsRetainedState m.layout kept → (es : List Event) → CanFollow m (begin_side m kept) es → (turns : ℕ)
       → SameRuns m k turns es (begin_side m kept) (begin_side k kept)
 
 -- each program of the project is one of the unit, and both do the same

@@ -13,7 +13,7 @@ use Rattle.plcx_meaning.specs.Base.{Memory, AtEdge, AtOutput}
 use Rattle.plcx_meaning.specs.Tree.{Class, Local, Temp, Mark, Plain, Declaration, Block, Operator, Or, Xor, And, Equal, NotEqual, Less, Greater, LessOrEqual, GreaterOrEqual, Plus, Minus, Times, Divide, Mod, Expression, Number, Name, Member, Apply, Not, Binary, Argument, Statement, Assign, Call, If, While, Case, PouText, expressions, statements, arms}
 use Rattle.plcx_meaning.specs.Functions.{out_type}
 use Rattle.plcx_meaning.specs.Diagram as diagram
-use Rattle.plcx_meaning.specs.Diagram.{Source, Rail, Literal, Wire, Back, Link, Operand, Own, Output, Storing, Stored, Inverted, Set, Reset, Contacting, Open, Closed, RisingContact, FallingContact, Coiling, By, RisingCoil, FallingCoil, Enable, eno_negated, Input, InOut, Output', Kind, Still, In, Out, Contact, Coil, Pass, Label, Jump, Return, Function, Port, port, ports, has_edge, Element, Pou, Project, has_jump}
+use Rattle.plcx_meaning.specs.Diagram.{Source, Rail, Literal, Wire, Back, Link, Operand, Own, Output, Storing, Stored, Inverted, Set, Reset, Contacting, Open, Closed, RisingContact, FallingContact, Coiling, By, RisingCoil, FallingCoil, Enable, eno_negated, InputPin, InOutPin, OutputPin, ElementKind, Still, In, Out, Contact, Coil, Pass, Label, Jump, Return, Function, Port, port, ports, has_edge, DiagramElement, Pou, Project, has_jump}
 use Rattle.plcx_meaning.specs.Evaluate.{leads_to}
 
 -- the name of a pin behind a number; an element that is no block has none
@@ -155,16 +155,16 @@ turned_if false id pin = []
 abbrev pub out_default : ℕ → Enable → Ty → List Statement
 out_default id enable t = if is_some enable.en then Assign (wire_name id (codes "OUT")) (number t (pos 0)) ∷ [] else []
 
-abbrev pub input_text : Input → Argument
+abbrev pub input_text : InputPin → Argument
 input_text i = record { formal = i.name; value = link_text i.link }
 
-abbrev pub in_out_text : InOut → Argument
+abbrev pub in_out_text : InOutPin → Argument
 in_out_text i = record { formal = i.name; value = Name i.variable }
 
-abbrev pub output_text : ℕ → List ℕ → Output' → Statement
+abbrev pub output_text : ℕ → List ℕ → OutputPin → Statement
 output_text id instance o = Assign (wire_name id o.name) (not_if o.negated (Member instance o.name))
 
-abbrev pub kind_text : Kind → ℕ → List Statement
+abbrev pub kind_text : ElementKind → ℕ → List Statement
 kind_text Still id = []
 kind_text (In t negated operand) id = Assign (wire_name id []) (not_if negated (operand_text operand)) ∷ []
 kind_text (Out how x link) id = store_text how x (link_text link) ∷ []
@@ -186,52 +186,52 @@ kind_text (diagram.Call instance enable inputs in_outs outputs) id =
 abbrev pub feed_text : ℕ → Port → Statement
 feed_text id p = Assign (memory_name (AtOutput id p.pin)) (wire id p.pin)
 
-abbrev pub element_text : Element → List Statement
+abbrev pub element_text : DiagramElement → List Statement
 element_text e = kind_text e.kind e.id ++ map (feed_text e.id) e.fed
 
-abbrev pub elements_text : List Element → List Statement
+abbrev pub elements_text : List DiagramElement → List Statement
 elements_text es = flat_map element_text es
 
 -- the counter gets where a jump or a return leads
-abbrev pub choice_text : List (List Element) → Element → List Statement
+abbrev pub choice_text : List (List DiagramElement) → DiagramElement → List Statement
 choice_text networks e = elim (leads_to networks e.kind) [ Some n ↦ If (wire e.id []) (statements (Assign counter_name (dint n) ∷ [])) ∷ [] | None ↦ [] ]
 
 -- from the last jump or return to the first, so that the first decides
-abbrev pub choices_text : List (List Element) → List Element → List Statement
+abbrev pub choices_text : List (List DiagramElement) → List DiagramElement → List Statement
 choices_text networks [] = []
 choices_text networks (e ∷ es) = choices_text networks es ++ choice_text networks e
 
-abbrev pub turn_text : List (List Element) → ℕ → List Element → List Statement
+abbrev pub turn_text : List (List DiagramElement) → ℕ → List DiagramElement → List Statement
 turn_text networks next network = elements_text network ++ (Assign counter_name (dint next) ∷ choices_text networks network)
 
-abbrev pub arms_text : List (List Element) → ℕ → List (List Element) → List (ℕ × List Statement)
+abbrev pub arms_text : List (List DiagramElement) → ℕ → List (List DiagramElement) → List (ℕ × List Statement)
 arms_text networks i [] = []
 arms_text networks i (network ∷ rest) = (i, turn_text networks (i + 1) network) ∷ arms_text networks (i + 1) rest
 
-abbrev pub straight_text : List (List Element) → List Statement
+abbrev pub straight_text : List (List DiagramElement) → List Statement
 straight_text networks = flat_map elements_text networks
 
 -- a loop over a counter, in which each network is an arm
-abbrev pub jumping_text : List (List Element) → List Statement
+abbrev pub jumping_text : List (List DiagramElement) → List Statement
 jumping_text networks =
     Assign counter_name (dint 0)
     ∷ While (Binary Less (Name counter_name) (dint (length networks))) (statements (Case (Name counter_name) (arms (arms_text networks 0 networks)) ∷ []))
     ∷ []
 
-abbrev pub body_text : List (List Element) → List Statement
+abbrev pub body_text : List (List DiagramElement) → List Statement
 body_text networks = if has_jump networks then jumping_text networks else straight_text networks
 
 -- the compiler's own variables have no address and no initial value
 abbrev pub own : List ℕ → Ty → Declaration
 own name t = record { name = name; address = None; ty = type_name t; initial = None }
 
-abbrev pub element_memories : Element → List Declaration
+abbrev pub element_memories : DiagramElement → List Declaration
 element_memories e = (if has_edge e.kind then own (memory_name (AtEdge e.id)) ty.Bool ∷ [] else []) ++ map (λ (p : Port). own (memory_name (AtOutput e.id p.pin)) p.ty) e.fed
 
-abbrev pub element_wires : Element → List Declaration
+abbrev pub element_wires : DiagramElement → List Declaration
 element_wires e = map (λ (p : Port). own (wire_name e.id p.pin) p.ty) (ports e.kind)
 
-abbrev pub counter : List (List Element) → List Declaration
+abbrev pub counter : List (List DiagramElement) → List Declaration
 counter networks = if has_jump networks then own counter_name ty.Dint ∷ [] else []
 
 -- an empty list has no block

@@ -1,6 +1,7 @@
 -- The trace of a side: after each event what it tells and what it shows, and what it retains at the end.
-use Rattle.std.specs.Prelude.{ℕ, ℤ, pos, List, [], ◌∷◌, map, filter}
-use Rattle.plcx_meaning.specs.Layout.{Leaf, declared_leaves}
+use Rattle.std.specs.Prelude.{ℕ, ℤ, List, [], ◌∷◌, map, filter}
+use Rattle.plcx_meaning.specs.Base.{Path}
+use Rattle.plcx_meaning.specs.Layout.{Leaf, declared_leaves, initial_in}
 use Rattle.plcx_meaning.specs.Run.{Event, Machine, Told, Side, tells, after, begin_side}
 use Rattle.plcx_meaning.specs.Diagram.{Pou, Project}
 use Rattle.plcx_meaning.specs.Evaluate.{diagram_machine}
@@ -43,9 +44,13 @@ side_at_end m turns (e ∷ es) s = side_at_end m turns es (after m turns e s)
 abbrev pub trace_from : {G : Type 0} → Machine G → ℕ → List Event → Side G → Trace
 trace_from m turns es s = trace_of (lines_from m turns es s) (retained_values m (side_at_end m turns es s))
 
--- from the beginning, where each retained leaf is 0
+-- from a retained state on
+abbrev pub trace_with : {G : Type 0} → Machine G → (Path → ℤ) → ℕ → List Event → Trace
+trace_with m kept turns es = trace_from m turns es (begin_side m kept)
+
+-- from the initial values on, where no retained state is given
 abbrev pub trace : {G : Type 0} → Machine G → ℕ → List Event → Trace
-trace m turns es = trace_from m turns es (begin_side m (λ p. pos 0))
+trace m turns es = trace_with m (initial_in m.layout) turns es
 
 -- of a program of a project, as the diagram and as its text
 abbrev pub diagram_trace : Project → Pou → ℕ → List Event → Trace

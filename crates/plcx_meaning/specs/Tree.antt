@@ -10,10 +10,12 @@ pub data PouKind : Type 0 where
 pub data Class : Type 0 where
   Local Input Output InOut Temp : Class
 
+-- the mark of a block; a list of a diagram that is constant and retain is constant
 pub data Mark : Type 0 where
   Plain Constant Retain : Mark
 
--- a name, its address, the name of its type, and its initial value, which may lie outside the type
+-- A name, its address, the name of its type, and its initial value, which may lie outside the type.
+-- A diagram spells a type as its text prints it: an elementary type and a standard block in capitals, a function block as its POU declares it.
 pub record Declaration : Type 0 where
   pub name : List ℕ
   pub address : Option (List ℕ)
