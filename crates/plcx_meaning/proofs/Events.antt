@@ -12,8 +12,8 @@ use Rattle.plcx_meaning.specs.Tree.{Mark}
 use Rattle.plcx_meaning.specs.Layout.{Variable, Meaning, Elementary, Composed, meaning, Scope, is_retained, initial_at, Spelling, path_of, Leaf, is_outside, is_constant, leaf_of, is_kept, variable_leaves, leaves, layout, initial_in, IsSpelled, IsOutside, Restart, Warm, Cold, restarted}
 use Rattle.plcx_meaning.specs.Run.{Input, Event, Scan, Again, put_inputs, Halted, NoStep, TheStop, Side, told_of, side_after, begin_side, IsInput, AreEvents, CanFollow}
 use Rattle.plcx_meaning.specs.Diagram.{Pou, Project, program_named}
-use Rattle.plcx_meaning.specs.Evaluate.{Diagram, scope_of, restarted_memories, diagram_machine}
-use Rattle.plcx_meaning.specs.Execute.{Run, Here, Invoked, text_machine}
+use Rattle.plcx_meaning.specs.Evaluate.{DiagramState, scope_of, restarted_memories, diagram_machine}
+use Rattle.plcx_meaning.specs.Execute.{TextState, TextSetting, TextCalls, text_machine}
 use Rattle.plcx_meaning.specs.Execute as text
 use Rattle.plcx_meaning.specs.Templates.{memory_name, pou_text, unit_of}
 use Rattle.plcx_meaning.specs.Same.{SameValues, SameRuns, IsSame, Behaves, Agree, AgreeThroughout}
@@ -64,22 +64,22 @@ layout_spelled c = of_leaves IsSpelled c (λ p t mark. refl) 18 [] c.own
 input_declared : (ls : List Leaf) → Each IsOutside ls → (i : Input) → IsInput ls i → is_declared i.path ≡ true
 input_declared ls all i h = subst (λ p. is_declared p ≡ true) h.3 ((each_at IsOutside ls h.0 all h.1).0 h.2)
 
-inputs_agree : (inputs : List Input) → Each (λ (i : Input). is_declared i.path ≡ true) inputs → (d : Diagram) (g : Run) → Agree d g
+inputs_agree : (inputs : List Input) → Each (λ (i : Input). is_declared i.path ≡ true) inputs → (d : DiagramState) (g : TextState) → Agree d g
     → Agree (record d { store = put_inputs inputs d.store }) (record g { store = put_inputs inputs g.store })
 inputs_agree [] h d g a = a
 inputs_agree (i ∷ is) h d g a = inputs_agree is h.1 _ _ (agree_set d g i.path i.value h.0 a)
 
-pub record SidesAgree (s : Side Diagram) (t : Side Run) : Type 0 where
+pub record SidesAgree (s : Side DiagramState) (t : Side TextState) : Type 0 where
   pub state : Agree s.state t.state
   pub halted : s.halted ≡ t.halted
 
 -- a scan whose outcomes are alike
-record After (time : ℕ) (old : Diagram) (old' : Run) (o : Outcome Diagram (Unit {0})) (p : Outcome Run (Unit {0})) : Type 0 where
+record After (time : ℕ) (old : DiagramState) (old' : TextState) (o : Outcome DiagramState (Unit {0})) (p : Outcome TextState (Unit {0})) : Type 0 where
   same : told_of o ≡ told_of p
   steps : told_of p ≢ NoStep
   agree : SidesAgree (side_after time old o) (side_after time old' p)
 
-after_alike : (time : ℕ) (old : Diagram) (old' : Run) (o : Outcome Diagram (Unit {0})) (p : Outcome Run (Unit {0})) → Alike Nothing o p → After time old old' o p
+after_alike : (time : ℕ) (old : DiagramState) (old' : TextState) (o : Outcome DiagramState (Unit {0})) (p : Outcome TextState (Unit {0})) → Alike Nothing o p → After time old old' o p
 after_alike time old old' (Ended d l) (Ended g k) a = record { same = refl; steps = λ e. cc; agree = record { state = a.is.0; halted = refl } }
 after_alike time old old' (Ended d l) (Stopped r g) a = absurd a.is
 after_alike time old old' (Ended d l) Stuck a = absurd a.is
@@ -89,12 +89,12 @@ after_alike time old old' (Stopped s d) Stuck a = absurd a.is
 after_alike time old old' Stuck p a = absurd a.is
 
 -- a scan of two sides, of which a halted one changes nothing but its time
-record AfterScan (time : ℕ) (s : Side Diagram) (t : Side Run) (x y : Bool) (o : Outcome Diagram (Unit {0})) (p : Outcome Run (Unit {0})) : Type 0 where
+record AfterScan (time : ℕ) (s : Side DiagramState) (t : Side TextState) (x y : Bool) (o : Outcome DiagramState (Unit {0})) (p : Outcome TextState (Unit {0})) : Type 0 where
   same : (if x then Halted else told_of o) ≡ (if y then Halted else told_of p)
   steps : (if y then Halted else told_of p) ≢ NoStep
   agree : SidesAgree (if x then record s { last = time } else side_after time s.state o) (if y then record t { last = time } else side_after time t.state p)
 
-after_scan : (time : ℕ) (s : Side Diagram) (t : Side Run) → SidesAgree s t → (x y : Bool) → x ≡ y → (o : Outcome Diagram (Unit {0})) (p : Outcome Run (Unit {0})) → After time s.state t.state o p → AfterScan time s t x y o p
+after_scan : (time : ℕ) (s : Side DiagramState) (t : Side TextState) → SidesAgree s t → (x y : Bool) → x ≡ y → (o : Outcome DiagramState (Unit {0})) (p : Outcome TextState (Unit {0})) → After time s.state t.state o p → AfterScan time s t x y o p
 after_scan time s t a true true e o p r = record { same = refl; steps = λ h. cc; agree = record { state = a.state; halted = a.halted } }
 after_scan time s t a true false e o p r = absurd (cc)
 after_scan time s t a false true e o p r = absurd (cc)
@@ -122,7 +122,7 @@ module _ (project : Project) (fits : ProjectFits project) (p : Pou) (there : Con
     halted = refl;
   }
 
-  memories_restart : (r : Restart) (d : Diagram) (g : Run) → Agree d g → (q : Path) (k : Memory) → is_declared q ≡ true
+  memories_restart : (r : Restart) (d : DiagramState) (g : TextState) → Agree d g → (q : Path) (k : Memory) → is_declared q ≡ true
       → restarted_memories c r d.memories q k ≡ restarted e r g.store (folded (memory_name k) ∷ q)
   memories_restart Warm d g a q k h =
       ap₂ (λ b v. if b then d.memories q k else v)
@@ -131,7 +131,7 @@ module _ (project : Project) (fits : ProjectFits project) (p : Pou) (there : Con
       ∙ ap (λ v. if is_retained e (folded (memory_name k) ∷ q) then v else initial_at e (folded (memory_name k) ∷ q)) (a.memories q k h)
   memories_restart Cold d g a q k h = sym (own_initial c e (worlds_extend project fits) owns (folded (memory_name k)) q (memory_own k) h)
 
-  restart_agrees : (r : Restart) (d : Diagram) (g : Run) → Agree d g → Agree ((diagram_machine project p).restart r d) ((text_machine (unit_of project) (pou_text p)).restart r g)
+  restart_agrees : (r : Restart) (d : DiagramState) (g : TextState) → Agree d g → Agree ((diagram_machine project p).restart r d) ((text_machine (unit_of project) (pou_text p)).restart r g)
   restart_agrees r d g a = record {
     stores = λ q h. restarted_same c e (worlds_extend project fits) owns r d.store g.store q h (a.stores q h);
     memories = λ q k h. memories_restart r d g a q k h;
@@ -139,7 +139,7 @@ module _ (project : Project) (fits : ProjectFits project) (p : Pou) (there : Con
   }
 
   module _ (turns : ℕ) where
-    scan_alike : (time : ℕ) (inputs : List Input) → Each (IsInput (layout c)) inputs → (d : Diagram) (g : Run) → Agree d g
+    scan_alike : (time : ℕ) (inputs : List Input) → Each (IsInput (layout c)) inputs → (d : DiagramState) (g : TextState) → Agree d g
         → After time d g ((diagram_machine project p).scan turns time inputs d) ((text_machine (unit_of project) (pou_text p)).scan turns time inputs g)
     scan_alike time inputs good d g a =
         after_alike time d g _ _
@@ -148,7 +148,7 @@ module _ (project : Project) (fits : ProjectFits project) (p : Pou) (there : Con
         (unheard_agrees _ _ []
         (agree_turns _ _ turns (inputs_agree inputs (each_weaker (IsInput (layout c)) _ inputs (λ i h. input_declared (layout c) (layout_outside c) i h) good) d g a)))))
 
-    runs_alike : (es : List Event) (last : ℕ) → AreEvents (layout c) last es → (s : Side Diagram) (t : Side Run) → SidesAgree s t
+    runs_alike : (es : List Event) (last : ℕ) → AreEvents (layout c) last es → (s : Side DiagramState) (t : Side TextState) → SidesAgree s t
         → SameRuns (diagram_machine project p) (text_machine (unit_of project) (pou_text p)) turns es s t
     runs_alike [] last good s t a = tt
     runs_alike (Scan time inputs ∷ es) last good s t a =
@@ -158,7 +158,7 @@ module _ (project : Project) (fits : ProjectFits project) (p : Pou) (there : Con
         let new = restart_agrees r s.state t.state a.state in
         (refl, (λ e. cc), new.stores, runs_alike es last good _ _ (record { state = new; halted = refl }))
 
-    agree_throughout : (es : List Event) (last : ℕ) → AreEvents (layout c) last es → (s : Side Diagram) (t : Side Run) → SidesAgree s t
+    agree_throughout : (es : List Event) (last : ℕ) → AreEvents (layout c) last es → (s : Side DiagramState) (t : Side TextState) → SidesAgree s t
         → AgreeThroughout (diagram_machine project p) (text_machine (unit_of project) (pou_text p)) turns es s t
     agree_throughout [] last good s t a = tt
     agree_throughout (Scan time inputs ∷ es) last good s t a =

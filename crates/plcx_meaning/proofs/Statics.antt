@@ -17,7 +17,7 @@ use Rattle.plcx_meaning.specs.Diagram.{Pou, Project}
 use Rattle.plcx_meaning.specs.Evaluate as evaluate
 use Rattle.plcx_meaning.specs.Evaluate.{is_in_out, leaf_named, operand_leaf}
 use Rattle.plcx_meaning.specs.Execute as text
-use Rattle.plcx_meaning.specs.Execute.{Referent, Temporary, Kept, Bound, Instance, elementary, referent_by, referent, Here, referent_of, Run, Frame, read, assign, leaf_at, has_leaf, parts_named, read_member, read_output, Formal, Takes, Binds, formal_by, formal, formal_named}
+use Rattle.plcx_meaning.specs.Execute.{Referent, Temporary, Kept, Bound, Instance, elementary, referent_by, referent, TextSetting, referent_of, TextState, Frame, read, assign, leaf_at, has_leaf, parts_named, read_member, read_output, Formal, Takes, Binds, formal_by, formal, formal_named}
 use Rattle.plcx_meaning.specs.Templates.{pou_text, unit_of}
 use Rattle.plcx_meaning.specs.Fits.{IsVariable, IsInstance, PouFits, ProjectFits}
 use Rattle.plcx_meaning.proofs.Lists.{each_at}
@@ -27,7 +27,7 @@ use Rattle.plcx_meaning.proofs.StaticsWorlds.{hidden, text_composed, composed_de
 use Rattle.plcx_meaning.proofs.Asked.{IsDeclared, VariableAsked}
 
 -- where the statements of a POU of a project stand
-abbrev pub here : Project → Pou → Site → Here
+abbrev pub here : Project → Pou → Site → TextSetting
 here project p site = record { world = text.world_of (unit_of project); variables = variables_of (pou_text p).blocks; site = site }
 
 pub type_self : (t : Ty) → same_ty t t ≡ true
@@ -60,10 +60,10 @@ is_bound_class k = elim k [ InOut ↦ true | _ ↦ false ]
 abbrev leaf_in : Class → List ℕ → Site → Path
 leaf_in k x site = if is_bound_class k then site.bound (folded x) else folded x ∷ site.path
 
-module _ (c : Here) (vs : List Variable) (x : List ℕ) (t : Ty) (site : IsDeclared c.site) (own : is_own (folded x) ≡ false) where
+module _ (c : TextSetting) (vs : List Variable) (x : List ℕ) (t : Ty) (site : IsDeclared c.site) (own : is_own (folded x) ≡ false) where
   asked_at : (q : Referent) (leaf : Path) → referent_of c x ≡ q → leaf_named vs c.site x ≡ leaf
       → ((s : Path → ℤ) (f : Frame) → read q x c.site s f ≡ Given (value t (s leaf)))
-      → ((n : ℤ) (g : Run) (f : Frame) → assign q x c.site (value t n) g f ≡ (if same_ty t t then Ended (record g { store = put g.store leaf n }) f else Stuck))
+      → ((n : ℤ) (g : TextState) (f : Frame) → assign q x c.site (value t n) g f ≡ (if same_ty t t then Ended (record g { store = put g.store leaf n }) f else Stuck))
       → has_leaf q t ≡ same_ty t t → leaf_at q x c.site ≡ leaf → is_declared leaf ≡ true → VariableAsked c vs x t
   asked_at q leaf is at reads writes has stands declared = record {
     reads = λ s f. ap (λ r. read r x c.site s f) is ∙ reads s f ∙ ap (λ l. Given (value t (s l))) (sym at);

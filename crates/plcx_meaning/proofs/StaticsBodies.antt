@@ -15,7 +15,7 @@ use Rattle.plcx_meaning.specs.Diagram.{Source, Rail, Literal, Wire, Back, Link, 
 use Rattle.plcx_meaning.specs.Evaluate as evaluate
 use Rattle.plcx_meaning.specs.Evaluate.{operand_leaf}
 use Rattle.plcx_meaning.specs.Execute as text
-use Rattle.plcx_meaning.specs.Execute.{Referent, Temporary, Kept, Instance, referent_by, referent, Here, referent_of, Frame, parts_named, read_member, read_output, value_of, Formal, Takes, Binds, formal_by, formal, formal_named, is_bound, all_bound}
+use Rattle.plcx_meaning.specs.Execute.{Referent, Temporary, Kept, Instance, referent_by, referent, TextSetting, referent_of, Frame, parts_named, read_member, read_output, value_of, Formal, Takes, Binds, formal_by, formal, formal_named, is_bound, all_bound}
 use Rattle.plcx_meaning.specs.Templates.{wire_name, memory_name, input_text, in_out_text, unit_of}
 use Rattle.plcx_meaning.specs.Fits.{IsInstance, SourceFits, LinkFits, OperandFits, StoringFits, EnableFits, InputFits, InOutFits, OutputFits, all_listed, CallFits, TruthFits, KindFits, fixed_by, ElementsFit, PortsFit, PouFits, ProjectFits}
 use Rattle.plcx_meaning.proofs.Fed.{fed_ports}

@@ -14,7 +14,7 @@ use Rattle.plcx_meaning.specs.Layout.{Variable, variables_of, variable_named, Wo
 use Rattle.plcx_meaning.specs.Diagram.{is_program}
 use Rattle.plcx_meaning.specs.Run as run
 use Rattle.plcx_meaning.specs.Run.{put_inputs}
-use Rattle.plcx_meaning.specs.Execute.{Instance, referent_by, referent, referent_in, elementary, Run, Frame, Formal, Takes, Binds, NoFormal, formal, has_leaf, store_argument, store_arguments, Invoked, run_statement, run_statements, run_arms, run_list, run_pou, is_label, block_named, program_named, world_of, with_standard, blocks_run, scope_of, text_machine}
+use Rattle.plcx_meaning.specs.Execute.{Instance, referent_by, referent, referent_in, elementary, TextState, Frame, Formal, Takes, Binds, NoFormal, formal, has_leaf, store_argument, store_arguments, TextCalls, statement_runs, statements_run, arms_run, list_runs, pou_runs, selects, block_named, program_named, world_of, with_standard, blocks_run, scope_of, text_machine}
 use Rattle.plcx_meaning.specs.Typed.{referent_type, variable_in, part_in, can_store, can_bind}
 use Rattle.plcx_meaning.specs.Ready.{TargetIsReady, BindingIsReady, ValueIsReady, StatementIsReady, StatementsAreReady, ArmsAreReady, unit_knows, VariableIsReady, user_block, TextNests, PouIsReady, IsReady}
 use Rattle.plcx_meaning.proofs.Stuck.{goes_not_stuck, value_good, here, Goes, goes_end, goes_then, goes_value, goes_typed, goes_truth, goes_if, assign_goes, turns_go}
@@ -62,20 +62,20 @@ binding_leaf c site (Not e) t h = absurd h
 binding_leaf c site (Binary op a b) t h = absurd h
 
 module _ (c : Scope) (site : Site) where
-  argument_goes : (way : Formal) (a : Argument) → ValueIsReady c a.value way → (p : Path) (old : Run) (f : Frame) (g : Run) (go : Run → Outcome Run Frame) → ((h : Run) → Goes (go h))
+  argument_goes : (way : Formal) (a : Argument) → ValueIsReady c a.value way → (p : Path) (old : TextState) (f : Frame) (g : TextState) (go : TextState → Outcome TextState Frame) → ((h : TextState) → Goes (go h))
       → Goes (store_argument way a (here c site) p old f g go)
   argument_goes (Takes t) a r p old f g go next = goes_value _ old _ (value_good a.value c site old.store f t r.typed) (λ v same. goes_typed v.ty t _ same (next _))
   argument_goes (Binds t) a r p old f g go next = rw (binding_leaf c site a.value t r) (next g)
   argument_goes NoFormal a r p old f g go next = absurd r
 
   arguments_go : (args : List Argument) (i : List ℕ) → Each (λ (a : Argument). ValueIsReady c a.value (formal c.world (part_in c i a.formal))) args
-      → (old : Run) (f : Frame) (g : Run) (go : Run → Outcome Run Frame) → ((h : Run) → Goes (go h)) → Goes (store_arguments args (here c site) i old f g go)
+      → (old : TextState) (f : Frame) (g : TextState) (go : TextState → Outcome TextState Frame) → ((h : TextState) → Goes (go h)) → Goes (store_arguments args (here c site) i old f g go)
   arguments_go [] i r old f g go next = next g
   arguments_go (a ∷ rest) i r old f g go next = argument_goes (formal c.world (part_in c i a.formal)) a r.0 _ old f g _ (λ h. arguments_go rest i r.1 old f h go next)
 
-  module _ (call : Invoked) (calls : (i type : List ℕ) → referent c.world (variable_in c i) ≡ Instance type → (at : Site) (g : Run) → Goes (call type at g)) where
+  module _ (call : TextCalls) (calls : (i type : List ℕ) → referent c.world (variable_in c i) ≡ Instance type → (at : Site) (g : TextState) → Goes (call type at g)) where
     mutual
-      statement_goes : (s : Statement) → StatementIsReady c s → (g : Run) (f : Frame) → Goes (run_statement s (here c site) call g f)
+      statement_goes : (s : Statement) → StatementIsReady c s → (g : TextState) (f : Frame) → Goes (statement_runs s (here c site) call g f)
       statement_goes (Assign x e) r g f =
           goes_value _ g _ (value_good e c site g.store f r.0 r.2.typed) (λ v same. assign_goes _ x site v g f r.0 (variable_type c x r.0 can_store r.1) same)
       statement_goes (Call i args) r g f =
@@ -84,15 +84,15 @@ module _ (c : Scope) (site : Site) where
       statement_goes (While e ss) r g f = turns_go _ _ (λ h l. value_good e c site h.store l ty.Bool r.0.typed) (λ h l. statements_go ss r.1 h l) g.left g f
       statement_goes (Case e arms) r g f = goes_value _ g _ (value_good e c site g.store f ty.Dint r.0.typed) (λ v same. goes_typed v.ty ty.Dint _ same (arms_go arms r.3 v.n g f))
 
-      statements_go : (ss : Statements) → StatementsAreReady c ss → (g : Run) (f : Frame) → Goes (run_statements ss (here c site) call g f)
+      statements_go : (ss : Statements) → StatementsAreReady c ss → (g : TextState) (f : Frame) → Goes (statements_run ss (here c site) call g f)
       statements_go no_statement r g f = goes_end g f
       statements_go (statement s ss) r g f = goes_then _ _ (statement_goes s r.0 g f) (λ h k. statements_go ss r.1 h k)
 
-      arms_go : (arms : Arms) → ArmsAreReady c arms → (n : ℤ) (g : Run) (f : Frame) → Goes (run_arms arms (here c site) call n g f)
+      arms_go : (arms : Arms) → ArmsAreReady c arms → (n : ℤ) (g : TextState) (f : Frame) → Goes (arms_run arms (here c site) call n g f)
       arms_go no_arm r n g f = goes_end g f
-      arms_go (arm label ss rest) r n g f = goes_if (is_label n label) _ _ (statements_go ss r.0 g f) (arms_go rest r.1 n g f)
+      arms_go (arm label ss rest) r n g f = goes_if (selects n label) _ _ (statements_go ss r.0 g f) (arms_go rest r.1 n g f)
 
-    list_goes : (ss : List Statement) → Each (StatementIsReady c) ss → (g : Run) (f : Frame) → Goes (run_list ss (here c site) call g f)
+    list_goes : (ss : List Statement) → Each (StatementIsReady c) ss → (g : TextState) (f : Frame) → Goes (list_runs ss (here c site) call g f)
     list_goes [] r g f = goes_end g f
     list_goes (s ∷ ss) r g f = goes_then _ _ (statement_goes s r.0 g f) (λ h k. list_goes ss r.1 h k)
 
@@ -148,8 +148,8 @@ some_is None h = absurd (cc)
 some_is (Some x) h = (x, refl)
 
 module _ (unit : List PouText) (ready : IsReady unit) (time : ℕ) where
-  pou_goes : (p : PouText) → PouIsReady unit p → (call : Invoked) → ((i type : List ℕ) → referent (world_of unit) (variable_in (scope_of unit p) i) ≡ Instance type → (at : Site) (g : Run) → Goes (call type at g))
-      → (site : Site) (g : Run) → Goes (run_pou p (world_of unit) call site g)
+  pou_goes : (p : PouText) → PouIsReady unit p → (call : TextCalls) → ((i type : List ℕ) → referent (world_of unit) (variable_in (scope_of unit p) i) ≡ Instance type → (at : Site) (g : TextState) → Goes (call type at g))
+      → (site : Site) (g : TextState) → Goes (pou_runs p (world_of unit) call site g)
   pou_goes p r call calls site g = goes_then _ _ (list_goes (scope_of unit p) site call calls p.body r.body g _) (λ h f. goes_end h tt)
 
   -- the block of a variable that is an instance of no standard block
@@ -164,8 +164,8 @@ module _ (unit : List PouText) (ready : IsReady unit) (time : ℕ) where
 
   -- the calls of a POU go on where those of the blocks of its instances do
   calls_at : (n : ℕ) (p : PouText) → PouIsReady unit p
-      → ((i : List ℕ) (v : Variable) → variable_in (scope_of unit p) i ≡ Some v → (q : PouText) → block_named v.ty unit ≡ Some q → user_block unit v ≡ Some q → (at : Site) (g : Run) → Goes (blocks_run n time unit v.ty at g))
-      → (i type : List ℕ) → referent (world_of unit) (variable_in (scope_of unit p) i) ≡ Instance type → (at : Site) (g : Run) → Goes (with_standard time (blocks_run n time unit) type at g)
+      → ((i : List ℕ) (v : Variable) → variable_in (scope_of unit p) i ≡ Some v → (q : PouText) → block_named v.ty unit ≡ Some q → user_block unit v ≡ Some q → (at : Site) (g : TextState) → Goes (blocks_run n time unit v.ty at g))
+      → (i type : List ℕ) → referent (world_of unit) (variable_in (scope_of unit p) i) ≡ Instance type → (at : Site) (g : TextState) → Goes (with_standard time (blocks_run n time unit) type at g)
   calls_at n p r users i type h at g =
       let it = instance_of (world_of unit) (variable_in (scope_of unit p) i) type h in
       let known = found_has (VariableIsReady unit p.kind) (folded i) (variables_of p.blocks) it.variable r.variables it.found in
@@ -178,7 +178,7 @@ module _ (unit : List PouText) (ready : IsReady unit) (time : ℕ) where
           rw (same, with_standard) (users i v found q.0 q.1 (its_block v e same ∙ q.1) at g)
 
   calls_go : (n : ℕ) (p : PouText) → PouIsReady unit p → TextNests n unit p → (i type : List ℕ) → referent (world_of unit) (variable_in (scope_of unit p) i) ≡ Instance type
-      → (at : Site) (g : Run) → Goes (with_standard time (blocks_run n time unit) type at g)
+      → (at : Site) (g : TextState) → Goes (with_standard time (blocks_run n time unit) type at g)
   calls_go zero p r nests = calls_at zero p r (λ i v found q named user at g.
       let none : user_block unit v ≡ None = found_has (λ (w : Variable). user_block unit w ≡ None) (folded i) (variables_of p.blocks) v nests found in absurd (cc))
   calls_go (suc m) p r nests = calls_at (suc m) p r (λ i v found q named user at g.
@@ -186,7 +186,7 @@ module _ (unit : List PouText) (ready : IsReady unit) (time : ℕ) where
       let its : PouIsReady unit q = block_has (PouIsReady unit) v.ty unit q ready.pous named in
       rw (named) (pou_goes q its (with_standard time (blocks_run m time unit)) (calls_go m q its rest) at g))
 
-  pub program_goes : (name : List ℕ) (p : PouText) → program_named name unit ≡ Some p → (turns : ℕ) (inputs : List run.Input) (g : Run) → (text_machine unit p).scan turns time inputs g ≢ Stuck
+  pub program_goes : (name : List ℕ) (p : PouText) → program_named name unit ≡ Some p → (turns : ℕ) (inputs : List run.Input) (g : TextState) → (text_machine unit p).scan turns time inputs g ≢ Stuck
   program_goes name p named turns inputs g =
       let its : PouIsReady unit p = program_has (PouIsReady unit) name unit p ready.pous named in
       goes_not_stuck _ (pou_goes p its (with_standard time (blocks_run 16 time unit)) (calls_go 16 p its its.nests) top _)

@@ -26,7 +26,7 @@ pub record Heard : Type 0 where
   pub value : Value
 
 -- what a scan changes: the leaves, the memories, and the turns that are left; and what a watch has heard of it so far, in order
-pub record Diagram : Type 0 where
+pub record DiagramState : Type 0 where
   pub store : Path → ℤ
   pub memories : Path → Memory → ℤ
   pub left : ℕ
@@ -42,10 +42,10 @@ no_wires id pin = pos 0
 abbrev pub fix : Wires → ℕ → List ℕ → ℤ → Wires
 fix ws id pin v i p = if nat_eq i id && bytes_eq (folded p) (folded pin) then v else ws i p
 
-abbrev pub set_leaf : Diagram → Path → ℤ → Diagram
+abbrev pub set_leaf : DiagramState → Path → ℤ → DiagramState
 set_leaf d p v = record d { store = put d.store p v }
 
-abbrev pub set_memory : Diagram → Path → Memory → ℤ → Diagram
+abbrev pub set_memory : DiagramState → Path → Memory → ℤ → DiagramState
 set_memory d p k v = record d { memories = put_memory d.memories p k v }
 
 -- the leaf that a name stands for: an in-out's is the one that it is bound to
@@ -61,7 +61,7 @@ operand_leaf vs site (Own x) = leaf_named vs site x
 operand_leaf vs site (Output i x) = folded x ∷ folded i ∷ site.path
 
 -- a feedback connection reads what its source gave when it was last evaluated
-abbrev pub source_value : Path → Diagram → Wires → Source → ℤ
+abbrev pub source_value : Path → DiagramState → Wires → Source → ℤ
 source_value path d ws Rail = pos 1
 source_value path d ws (Literal negated n) = not_if negated n
 source_value path d ws (Wire id pin) = ws id pin
@@ -72,11 +72,11 @@ abbrev pub or_all : ℤ → List ℤ → ℤ
 or_all v [] = v
 or_all v (w ∷ rest) = or_all (or_of v w) rest
 
-abbrev pub link_value : Path → Diagram → Wires → Link → ℤ
+abbrev pub link_value : Path → DiagramState → Wires → Link → ℤ
 link_value path d ws link = not_if link.negated (or_all (source_value path d ws link.first) (map (source_value path d ws) link.others))
 
 -- a leaf gets a value, or its opposite; or it is set or reset where the value is TRUE
-abbrev pub store_by : Storing → Path → ℤ → Diagram → Diagram
+abbrev pub store_by : Storing → Path → ℤ → DiagramState → DiagramState
 store_by Stored p v d = set_leaf d p v
 store_by Inverted p v d = set_leaf d p (not_of v)
 store_by Set p v d = if is_true v then set_leaf d p (pos 1) else d
@@ -90,14 +90,14 @@ contact_value RisingContact l v m = and_of (and_of l v) (not_of m)
 contact_value FallingContact l v m = and_of (and_of l (not_of v)) m
 
 -- a contact at an edge remembers the variable's value
-abbrev pub contact_does : Contacting → Path → ℕ → ℤ → Diagram → Diagram
+abbrev pub contact_does : Contacting → Path → ℕ → ℤ → DiagramState → DiagramState
 contact_does Open p id v d = d
 contact_does Closed p id v d = d
 contact_does RisingContact p id v d = set_memory d p (AtEdge id) v
 contact_does FallingContact p id v d = set_memory d p (AtEdge id) v
 
 -- a coil at an edge stores whether its link rose or fell, and remembers the link's value
-abbrev pub coil_does : Coiling → Path → Path → ℕ → ℤ → Diagram → Diagram
+abbrev pub coil_does : Coiling → Path → Path → ℕ → ℤ → DiagramState → DiagramState
 coil_does (By how) leaf p id l d = store_by how leaf l d
 coil_does RisingCoil leaf p id l d = set_memory (set_leaf d leaf (and_of l (not_of (d.memories p (AtEdge id))))) p (AtEdge id) l
 coil_does FallingCoil leaf p id l d = set_memory (set_leaf d leaf (and_of (not_of l) (d.memories p (AtEdge id)))) p (AtEdge id) l
@@ -114,7 +114,7 @@ abbrev pub turn : Bool → ℕ → List ℕ → Wires → Wires
 turn true id pin ws = fix ws id pin (not_of (ws id pin))
 turn false id pin ws = ws
 
-abbrev pub with_result : {L : Type 0} → Result Value Fault → Diagram → (ℤ → Outcome Diagram L) → Outcome Diagram L
+abbrev pub with_result : {L : Type 0} → Result Value Fault → DiagramState → (ℤ → Outcome DiagramState L) → Outcome DiagramState L
 with_result (Ok v) d go = go v.n
 with_result (Err fault) d go = Stopped (Faulted fault) d
 
@@ -123,7 +123,7 @@ abbrev pub function_result : Func → Ty → List Link → ℤ → (Link → ℤ
 function_result f t inputs v values = if is_true v then applied f t (map (λ l. value l.ty (values l)) inputs) else Ok (value t (pos 0))
 
 -- a call stores its connected inputs in the instance
-abbrev pub store_inputs : List InputPin → Path → (Link → ℤ) → Diagram → Diagram
+abbrev pub store_inputs : List InputPin → Path → (Link → ℤ) → DiagramState → DiagramState
 store_inputs [] inner values d = d
 store_inputs (i ∷ is) inner values d = store_inputs is inner values (set_leaf d (folded i.name ∷ inner) (values i.link))
 
@@ -133,30 +133,30 @@ bind [] leaf key = []
 bind (i ∷ is) leaf key = if bytes_eq (folded i.name) key then leaf i.variable else bind is leaf key
 
 -- and its wires are the stored outputs
-abbrev pub take_outputs : List OutputPin → ℕ → Path → Diagram → Wires → Wires
+abbrev pub take_outputs : List OutputPin → ℕ → Path → DiagramState → Wires → Wires
 take_outputs [] id inner d ws = ws
 take_outputs (o ∷ os) id inner d ws = take_outputs os id inner d (fix ws id o.name (not_if o.negated (d.store (folded o.name ∷ inner))))
 
 -- how a block is evaluated: the one of a type's name, as the instance at a site
-abbrev pub Called : Type 0
-Called = List ℕ → Site → Diagram → Outcome Diagram (Unit {0})
+abbrev pub DiagramCalls : Type 0
+DiagramCalls = List ℕ → Site → DiagramState → Outcome DiagramState (Unit {0})
 
 -- where a body is evaluated: the place of its POU in the project, its variables, its instance, and how the blocks of its instances are evaluated
-pub record Setting : Type 0 where
+pub record DiagramSetting : Type 0 where
   pub pou : ℕ
   pub variables : List Variable
   pub site : Site
-  pub called : Called
+  pub called : DiagramCalls
 
 -- a block is stored to and evaluated only where EN is not FALSE
-abbrev pub call_does : List ℕ → List ℕ → ℤ → List InputPin → List InOutPin → Setting → (Link → ℤ) → Diagram → Outcome Diagram (Unit {0})
+abbrev pub call_does : List ℕ → List ℕ → ℤ → List InputPin → List InOutPin → DiagramSetting → (Link → ℤ) → DiagramState → Outcome DiagramState (Unit {0})
 call_does instance type v inputs in_outs c values d =
     if is_true v
     then c.called type (record { path = folded instance ∷ c.site.path; bound = bind in_outs (leaf_named c.variables c.site) }) (store_inputs inputs (folded instance ∷ c.site.path) values d)
     else Ended d tt
 
 -- the effect of an element of this number
-abbrev pub kind_does : ElementKind → ℕ → Setting → Diagram → Wires → Outcome Diagram Wires
+abbrev pub kind_does : ElementKind → ℕ → DiagramSetting → DiagramState → Wires → Outcome DiagramState Wires
 kind_does Still id c d ws = Ended d ws
 kind_does (In t negated operand) id c d ws = Ended d (fix ws id [] (not_if negated (d.store (operand_leaf c.variables c.site operand))))
 kind_does (Out how x link) id c d ws = Ended (store_by how (leaf_named c.variables c.site x) (link_value c.site.path d ws link) d) ws
@@ -186,7 +186,7 @@ kind_does (Call instance enable inputs in_outs outputs) id c d ws =
     (take_outputs outputs id (folded instance ∷ c.site.path) d' (fix_eno enable id (enable_value (link_value c.site.path d ws) enable) ws)))))
 
 -- what feeds back is remembered when the element has been evaluated to its end
-abbrev pub feed : ℕ → List Port → Path → Wires → Diagram → Diagram
+abbrev pub feed : ℕ → List Port → Path → Wires → DiagramState → DiagramState
 feed id [] path ws d = d
 feed id (p ∷ ps) path ws d = feed id ps path ws (set_memory d path (AtOutput id p.pin) (ws id p.pin))
 
@@ -195,19 +195,19 @@ abbrev pub outputs_heard : (pou id number : ℕ) → List Port → Wires → Lis
 outputs_heard pou id n [] ws = []
 outputs_heard pou id n (p ∷ ps) ws = record { pou = pou; id = id; number = n; value = value p.ty (ws id p.pin) } ∷ outputs_heard pou id (n + 1) ps ws
 
-abbrev pub hear : List Heard → Diagram → Diagram
+abbrev pub hear : List Heard → DiagramState → DiagramState
 hear hs d = record d { heard = d.heard ++ hs }
 
 -- a watch hears of an element once it has been evaluated to its end, of each output in the order of its wires
-abbrev pub element_does : DiagramElement → Setting → Diagram → Wires → Outcome Diagram Wires
+abbrev pub element_does : DiagramElement → DiagramSetting → DiagramState → Wires → Outcome DiagramState Wires
 element_does e c d ws = then_do (kind_does e.kind e.id c d ws) (λ d' ws'. Ended (hear (outputs_heard c.pou e.id 0 (ports e.kind) ws') (feed e.id e.fed c.site.path ws' d')) ws')
 
-abbrev pub elements_do : List DiagramElement → Setting → Diagram → Wires → Outcome Diagram Wires
+abbrev pub elements_do : List DiagramElement → DiagramSetting → DiagramState → Wires → Outcome DiagramState Wires
 elements_do [] c d ws = Ended d ws
 elements_do (e ∷ es) c d ws = then_do (element_does e c d ws) (λ d' ws'. elements_do es c d' ws')
 
 -- a body without jump and return: its networks once, in order; each fixes its wires anew
-abbrev pub straight : List (List DiagramElement) → Setting → Diagram → Outcome Diagram (Unit {0})
+abbrev pub straight : List (List DiagramElement) → DiagramSetting → DiagramState → Outcome DiagramState (Unit {0})
 straight [] c d = Ended d tt
 straight (network ∷ networks) c d = then_do (elements_do network c d no_wires) (λ d' ws. straight networks c d')
 
@@ -226,24 +226,24 @@ abbrev pub successor : List (List DiagramElement) → List DiagramElement → �
 successor networks [] next ws = next
 successor networks (e ∷ es) next ws = chosen (leads_to networks e.kind) (ws e.id []) (successor networks es next ws)
 
-abbrev pub at_network : Option (List DiagramElement) → Diagram → (List DiagramElement → Outcome Diagram (Unit {0})) → Outcome Diagram (Unit {0})
+abbrev pub at_network : Option (List DiagramElement) → DiagramState → (List DiagramElement → Outcome DiagramState (Unit {0})) → Outcome DiagramState (Unit {0})
 at_network None d go = Ended d tt
 at_network (Some network) d go = go network
 
 -- A body with a jump or a return, from a network on: each evaluation of a network costs one turn. The first number only bounds the
 -- recursion; it is the number of turns that are left.
-abbrev pub jumping : ℕ → List (List DiagramElement) → Setting → ℕ → Diagram → Outcome Diagram (Unit {0})
+abbrev pub jumping : ℕ → List (List DiagramElement) → DiagramSetting → ℕ → DiagramState → Outcome DiagramState (Unit {0})
 jumping zero networks c i d = at_network (slice_get networks i) d (λ network. Stopped OutOfTurns d)
 jumping (suc n) networks c i d =
     at_network (slice_get networks i) d (λ network.
     spend d.left d (λ left.
     then_do (elements_do network c (record d { left = left }) no_wires) (λ d' ws. jumping n networks c (successor networks network (i + 1) ws) d')))
 
-abbrev pub body_does : List (List DiagramElement) → Setting → Diagram → Outcome Diagram (Unit {0})
+abbrev pub body_does : List (List DiagramElement) → DiagramSetting → DiagramState → Outcome DiagramState (Unit {0})
 body_does networks c d = if has_jump networks then jumping d.left networks c 0 d else straight networks c d
 
 -- a standard block takes one step at the time of the scan, and others are evaluated as users say
-abbrev pub with_standard : ℕ → Called → Called
+abbrev pub with_standard : ℕ → DiagramCalls → DiagramCalls
 with_standard time users type site d = elim (kind_named type) [ Some k ↦ Ended (record d { store = called k time site.path d.store }) tt | None ↦ users type site d ]
 
 -- the place of a POU in the project, from 0, by its name
@@ -252,16 +252,16 @@ place_named name [] = 0
 place_named name (p ∷ ps) = if bytes_eq (folded p.name) (folded name) then 0 else place_named name ps + 1
 
 -- a POU as the instance at a site
-abbrev pub pou_does : Project → Called → Pou → Site → Diagram → Outcome Diagram (Unit {0})
+abbrev pub pou_does : Project → DiagramCalls → Pou → Site → DiagramState → Outcome DiagramState (Unit {0})
 pou_does project called p site d = body_does p.networks (record { pou = place_named p.name project; variables = variables_of p.lists; site = site; called = called }) d
 
 -- the function blocks of a project, with so many levels of them below
-abbrev pub blocks_do : ℕ → (time : ℕ) → Project → Called
+abbrev pub blocks_do : ℕ → (time : ℕ) → Project → DiagramCalls
 blocks_do zero time project type site d = Stuck
 blocks_do (suc n) time project type site d =
     found (block_named type project) (λ p. pou_does project (with_standard time (blocks_do n time project)) p site d)
 
-abbrev pub program_does : (time : ℕ) → Project → Pou → Diagram → Outcome Diagram (Unit {0})
+abbrev pub program_does : (time : ℕ) → Project → Pou → DiagramState → Outcome DiagramState (Unit {0})
 program_does time project p d = pou_does project (with_standard time (blocks_do 16 time project)) p top d
 
 abbrev pub world_of : Project → World
@@ -276,17 +276,17 @@ restarted_memories c Warm m p k = if is_retained c p then m p k else pos 0
 restarted_memories c Cold m p k = pos 0
 
 -- one scan of a program: the inputs are written, and a watch has heard nothing yet
-abbrev pub scan_does : Project → Pou → (turns time : ℕ) → List run.Input → Diagram → Outcome Diagram (Unit {0})
+abbrev pub scan_does : Project → Pou → (turns time : ℕ) → List run.Input → DiagramState → Outcome DiagramState (Unit {0})
 scan_does project p turns time inputs d = program_does time project p (record { store = put_inputs inputs d.store; memories = d.memories; left = turns; heard = [] })
 
 -- what was heard of a scan is not kept behind it
-abbrev pub unheard : Outcome Diagram (Unit {0}) → Outcome Diagram (Unit {0})
+abbrev pub unheard : Outcome DiagramState (Unit {0}) → Outcome DiagramState (Unit {0})
 unheard (Ended d u) = Ended (record d { heard = [] }) u
 unheard (Stopped s d) = Stopped s (record d { heard = [] })
 unheard Stuck = Stuck
 
 -- a program as a side
-abbrev pub diagram_machine : Project → Pou → Machine Diagram
+abbrev pub diagram_machine : Project → Pou → Machine DiagramState
 diagram_machine project p = record {
   layout = layout (scope_of project p);
   begin = λ kept. record { store = begun (scope_of project p) kept; memories = λ q k. pos 0; left = 0; heard = [] };

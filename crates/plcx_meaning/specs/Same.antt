@@ -7,8 +7,8 @@ use Rattle.plcx_meaning.specs.Layout.{declared_leaves, IsRetainedState}
 use Rattle.plcx_meaning.specs.Run.{Event, Machine, Side, NoStep, tells, after, begin_side, CanFollow}
 use Rattle.plcx_meaning.specs.Diagram.{Pou, Project}
 use Rattle.plcx_meaning.specs.Diagram as diagram
-use Rattle.plcx_meaning.specs.Evaluate.{Diagram, diagram_machine}
-use Rattle.plcx_meaning.specs.Execute.{Run, text_machine}
+use Rattle.plcx_meaning.specs.Evaluate.{DiagramState, diagram_machine}
+use Rattle.plcx_meaning.specs.Execute.{TextState, text_machine}
 use Rattle.plcx_meaning.specs.Execute as text
 use Rattle.plcx_meaning.specs.Templates.{memory_name}
 
@@ -37,12 +37,12 @@ Behaves project unit = (name : List ℕ) (p : Pou) → diagram.program_named nam
     → (q : PouText) × (text.program_named name unit ≡ Some q) × IsSame (diagram_machine project p) (text_machine unit q)
 
 -- a state of a diagram and one of a text agree: on all declared paths, on each memory and its variable, and on the turns that are left
-pub record Agree (d : Diagram) (g : Run) : Type 0 where
+pub record Agree (d : DiagramState) (g : TextState) : Type 0 where
   pub stores : (p : Path) → is_declared p ≡ true → d.store p ≡ g.store p
   pub memories : (p : Path) (k : Memory) → is_declared p ≡ true → d.memories p k ≡ g.store (folded (memory_name k) ∷ p)
   pub lefts : d.left ≡ g.left
 
 -- their states agree after each event
-abbrev pub AgreeThroughout : Machine Diagram → Machine Run → ℕ → List Event → Side Diagram → Side Run → Type 0
+abbrev pub AgreeThroughout : Machine DiagramState → Machine TextState → ℕ → List Event → Side DiagramState → Side TextState → Type 0
 AgreeThroughout m k n [] s t = Unit {0}
 AgreeThroughout m k n (e ∷ es) s t = Agree (after m n e s).state (after k n e t).state × AgreeThroughout m k n es (after m n e s) (after k n e t)

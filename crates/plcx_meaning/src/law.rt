@@ -6,9 +6,9 @@ ghost use Rattle.plcx_meaning.specs.Layout.{Variable, Scope, layout, IsSpelled, 
 ghost use Rattle.plcx_meaning.specs.Traces.{trace_from, diagram_trace, text_trace};
 ghost use Rattle.plcx_meaning.specs.Run.{Input, Event, Scan, Machine, Side, after, last_after, begin_side, AreEvents, CanFollow};
 ghost use Rattle.plcx_meaning.specs.Diagram.{DiagramElement, Pou, Project, program_named};
-ghost use Rattle.plcx_meaning.specs.Evaluate.{Heard, Diagram, Wires, no_wires, elements_do, successor, at_network, jumping, Setting, with_standard, blocks_do, program_does, diagram_machine};
+ghost use Rattle.plcx_meaning.specs.Evaluate.{Heard, DiagramState, Wires, no_wires, elements_do, successor, at_network, jumping, DiagramSetting, with_standard, blocks_do, program_does, diagram_machine};
 ghost use Rattle.plcx_meaning.specs.Watch.{earlier, heard_earlier};
-ghost use Rattle.plcx_meaning.specs.Execute.{Run, Frame, Here, with_truth, value_of, run_statement, run_statements, run_list, blocks_run, program_runs, text_machine};
+ghost use Rattle.plcx_meaning.specs.Execute.{TextState, Frame, TextSetting, with_truth, value_of, statement_runs, statements_run, list_runs, blocks_run, program_runs, text_machine};
 ghost use Rattle.plcx_meaning.specs.Execute as text;
 ghost use Rattle.plcx_meaning.specs.Templates.{pou_text, unit_of};
 ghost use Rattle.plcx_meaning.specs.Fits.{ProjectFits};
@@ -27,27 +27,27 @@ pub fn same_behavior()
 
 /// A scan of a side that is halted changes nothing but the time of the last scan.
 pub fn halting()
-    ensures diagram { (m : Machine Diagram) (turns time : ℕ) (inputs : List Input) (s : Side Diagram) → s.halted ≡ true → after m turns (Scan time inputs) s ≡ record s { last = time } }
-    ensures text { (m : Machine Run) (turns time : ℕ) (inputs : List Input) (s : Side Run) → s.halted ≡ true → after m turns (Scan time inputs) s ≡ record s { last = time } }
+    ensures diagram { (m : Machine DiagramState) (turns time : ℕ) (inputs : List Input) (s : Side DiagramState) → s.halted ≡ true → after m turns (Scan time inputs) s ≡ record s { last = time } }
+    ensures text { (m : Machine TextState) (turns time : ℕ) (inputs : List Input) (s : Side TextState) → s.halted ≡ true → after m turns (Scan time inputs) s ≡ record s { last = time } }
 {}
 
 /// The time of the last scan is set by each scan, also of a side that is halted, and kept by restarts.
 pub fn times_of_scans()
-    ensures diagram { (m : Machine Diagram) (turns : ℕ) (e : Event) (s : Side Diagram) → (after m turns e s).last ≡ last_after s.last e }
-    ensures text { (m : Machine Run) (turns : ℕ) (e : Event) (s : Side Run) → (after m turns e s).last ≡ last_after s.last e }
+    ensures diagram { (m : Machine DiagramState) (turns : ℕ) (e : Event) (s : Side DiagramState) → (after m turns e s).last ≡ last_after s.last e }
+    ensures text { (m : Machine TextState) (turns : ℕ) (e : Event) (s : Side TextState) → (after m turns e s).last ≡ last_after s.last e }
 {}
 
 /// Neither side makes more turns, however a piece of a scan comes out.
 pub fn turns_never_grow()
-    ensures diagram { (time : ℕ) (project : Project) (p : Pou) (d : Diagram) → LeavesAtMost (λ e. e.left) d.left (program_does time project p d) }
-    ensures text { (time : ℕ) (unit : List PouText) (p : PouText) (g : Run) → LeavesAtMost (λ h. h.left) g.left (program_runs time unit p g) }
-    ensures statements { (n time : ℕ) (unit : List PouText) (c : Here) (ss : List Statement) (g : Run) (f : Frame) → LeavesAtMost (λ h. h.left) g.left (run_list ss c (text.with_standard time (blocks_run n time unit)) g f) }
+    ensures diagram { (time : ℕ) (project : Project) (p : Pou) (d : DiagramState) → LeavesAtMost (λ e. e.left) d.left (program_does time project p d) }
+    ensures text { (time : ℕ) (unit : List PouText) (p : PouText) (g : TextState) → LeavesAtMost (λ h. h.left) g.left (program_runs time unit p g) }
+    ensures statements { (n time : ℕ) (unit : List PouText) (c : TextSetting) (ss : List Statement) (g : TextState) (f : Frame) → LeavesAtMost (λ h. h.left) g.left (list_runs ss c (text.with_standard time (blocks_run n time unit)) g f) }
 {}
 
 /// A loop is its test, one turn, and the loop again; and so is a body with jumps from a network on. The numbers that bound the recursions of the definitions never show.
 pub fn loops()
-    ensures diagram { (n time : ℕ) (project : Project) (networks : List (List DiagramElement)) (c : Setting) → c.called ≡ with_standard time (blocks_do n time project) → (i : ℕ) (d : Diagram) → jumping d.left networks c i d ≡ at_network (slice_get networks i) d (λ network. spend d.left d (λ left. then_do (elements_do network c (record d { left = left }) no_wires) (λ e ws. jumping e.left networks c (successor networks network (i + 1) ws) e))) }
-    ensures text { (n time : ℕ) (unit : List PouText) (c : Here) (e : Expression) (ss : Statements) (g : Run) (f : Frame) → run_statement (While e ss) c (text.with_standard time (blocks_run n time unit)) g f ≡ with_truth (value_of e c g.store f) g (λ b. if b then spend g.left g (λ left. then_do (run_statements ss c (text.with_standard time (blocks_run n time unit)) (record g { left = left }) f) (run_statement (While e ss) c (text.with_standard time (blocks_run n time unit)))) else Ended g f) }
+    ensures diagram { (n time : ℕ) (project : Project) (networks : List (List DiagramElement)) (c : DiagramSetting) → c.called ≡ with_standard time (blocks_do n time project) → (i : ℕ) (d : DiagramState) → jumping d.left networks c i d ≡ at_network (slice_get networks i) d (λ network. spend d.left d (λ left. then_do (elements_do network c (record d { left = left }) no_wires) (λ e ws. jumping e.left networks c (successor networks network (i + 1) ws) e))) }
+    ensures text { (n time : ℕ) (unit : List PouText) (c : TextSetting) (e : Expression) (ss : Statements) (g : TextState) (f : Frame) → statement_runs (While e ss) c (text.with_standard time (blocks_run n time unit)) g f ≡ with_truth (value_of e c g.store f) g (λ b. if b then spend g.left g (λ left. then_do (statements_run ss c (text.with_standard time (blocks_run n time unit)) (record g { left = left }) f) (statement_runs (While e ss) c (text.with_standard time (blocks_run n time unit)))) else Ended g f) }
 {}
 
 /// Whoever sets or shows leaves meets declared ones alone, and so no variable that the compiler keeps for itself.
@@ -62,7 +62,7 @@ pub fn spelled_leaves()
 
 /// What a watch hears changes nothing else: a piece of a scan does the same whatever was heard before it, and adds to that what it tells.
 pub fn hearing()
-    ensures program { (time : ℕ) (project : Project) (p : Pou) (hs : List Heard) (d : Diagram) → program_does time project p (earlier hs d) ≡ heard_earlier hs (program_does time project p d) }
-    ensures blocks { (n time : ℕ) (project : Project) (type : List ℕ) (site : Site) (hs : List Heard) (d : Diagram) → with_standard time (blocks_do n time project) type site (earlier hs d) ≡ heard_earlier hs (with_standard time (blocks_do n time project) type site d) }
-    ensures elements { (n time : ℕ) (project : Project) (c : Setting) → c.called ≡ with_standard time (blocks_do n time project) → (es : List DiagramElement) (hs : List Heard) (d : Diagram) (ws : Wires) → elements_do es c (earlier hs d) ws ≡ heard_earlier hs (elements_do es c d ws) }
+    ensures program { (time : ℕ) (project : Project) (p : Pou) (hs : List Heard) (d : DiagramState) → program_does time project p (earlier hs d) ≡ heard_earlier hs (program_does time project p d) }
+    ensures blocks { (n time : ℕ) (project : Project) (type : List ℕ) (site : Site) (hs : List Heard) (d : DiagramState) → with_standard time (blocks_do n time project) type site (earlier hs d) ≡ heard_earlier hs (with_standard time (blocks_do n time project) type site d) }
+    ensures elements { (n time : ℕ) (project : Project) (c : DiagramSetting) → c.called ≡ with_standard time (blocks_do n time project) → (es : List DiagramElement) (hs : List Heard) (d : DiagramState) (ws : Wires) → elements_do es c (earlier hs d) ws ≡ heard_earlier hs (elements_do es c d ws) }
 {}

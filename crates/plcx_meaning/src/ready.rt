@@ -3,7 +3,7 @@ ghost use Rattle.std.specs.Prelude.{◌≡◌, ◌≢◌, ℕ, List, [], ◌∷�
 ghost use Rattle.plcx_meaning.specs.Base.{Stuck};
 ghost use Rattle.plcx_meaning.specs.Tree.{PouText};
 ghost use Rattle.plcx_meaning.specs.Run.{Input};
-ghost use Rattle.plcx_meaning.specs.Execute.{Run, text_machine, program_named};
+ghost use Rattle.plcx_meaning.specs.Execute.{TextState, text_machine, program_named};
 ghost use Rattle.plcx_meaning.specs.Diagram.{Project};
 ghost use Rattle.plcx_meaning.specs.Templates.{unit_of};
 ghost use Rattle.plcx_meaning.specs.Fits.{ProjectFits};
@@ -12,7 +12,7 @@ ghost use Rattle.plcx_meaning.specs.ReadyExamples.{ready_unit, unbound, bound_to
 
 /// A scan of a program of a ready unit has a meaning, whatever its store holds, at every time and budget.
 pub fn never_stuck()
-    ensures { (unit : List PouText) → IsReady unit → (name : List ℕ) (p : PouText) → program_named name unit ≡ Some p → (turns time : ℕ) (inputs : List Input) (g : Run) → (text_machine unit p).scan turns time inputs g ≢ Stuck }
+    ensures { (unit : List PouText) → IsReady unit → (name : List ℕ) (p : PouText) → program_named name unit ≡ Some p → (turns time : ℕ) (inputs : List Input) (g : TextState) → (text_machine unit p).scan turns time inputs g ≢ Stuck }
 {}
 
 /// The text of a project that fits is ready.
