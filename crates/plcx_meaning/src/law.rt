@@ -2,14 +2,16 @@
 ghost use Rattle.std.specs.Prelude.{◌≡◌, ℕ, List, true};
 ghost use Rattle.plcx_meaning.specs.Base.{Each};
 ghost use Rattle.plcx_meaning.specs.Tree.{Expression, Statements, PouText};
-ghost use Rattle.plcx_meaning.specs.Layout.{Scope, layout, IsSpelled, IsOutside};
+ghost use Rattle.plcx_meaning.specs.Layout.{Scope, Leaf, layout, initial_in, IsLayout, IsSpelled, IsOutside, IsRetainedState};
 ghost use Rattle.plcx_meaning.specs.Run.{Input, Event, Scan, Machine, Side, after, last_after};
 ghost use Rattle.plcx_meaning.specs.Diagram.{DiagramElement, Pou, Project};
-ghost use Rattle.plcx_meaning.specs.Evaluate.{Heard, DiagramState, DiagramSetting, program_does};
+ghost use Rattle.plcx_meaning.specs.Evaluate.{Heard, DiagramState, DiagramSetting, program_does, scope_of};
 ghost use Rattle.plcx_meaning.specs.Watch.{earlier, heard_earlier};
 ghost use Rattle.plcx_meaning.specs.Execute.{TextState, TextSetting, program_runs};
+ghost use Rattle.plcx_meaning.specs.Execute as text;
 ghost use Rattle.plcx_meaning.specs.Templates.{unit_of};
 ghost use Rattle.plcx_meaning.specs.Fits.{ProjectFits};
+ghost use Rattle.plcx_meaning.specs.Ready.{IsReady};
 ghost use Rattle.plcx_meaning.specs.Same.{Behaves};
 ghost use Rattle.plcx_meaning.specs.Turns.{LeavesAtMost};
 ghost use Rattle.plcx_meaning.specs.Laws.{OfPrograms, StatesAgree, TracesAgree, StartsAgree, JumpingUnfolds, WhileUnfolds, diagram_calls, text_calls, StatementsLower, ElementsHear, CallsHear};
@@ -59,6 +61,13 @@ pub fn outside_leaves()
 /// Each leaf is spelled as its names are declared: without case that is its path.
 pub fn spelled_leaves()
     ensures { (c : Scope) → Each IsSpelled (layout c) }
+{}
+
+/// No two leaves of a program have one path, and each begins with a number of its type; so the initial values are a retained state.
+pub fn distinct_leaves()
+    ensures diagrams { (project : Project) → ProjectFits project → Each (λ p. IsLayout (layout (scope_of project p))) project }
+    ensures texts { (unit : List PouText) → IsReady unit → Each (λ p. IsLayout (layout (text.scope_of unit p))) unit }
+    ensures initial { (ls : List Leaf) → IsLayout ls → IsRetainedState ls (initial_in ls) }
 {}
 
 /// What a watch hears changes nothing else: a piece of a scan does the same whatever was heard before it, and adds to that what it tells.
