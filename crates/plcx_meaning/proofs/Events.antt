@@ -18,6 +18,7 @@ use Rattle.plcx_meaning.specs.Execute as text
 use Rattle.plcx_meaning.specs.Templates.{memory_name, pou_text, unit_of}
 use Rattle.plcx_meaning.specs.Same.{SameValues, SameRuns, IsSame, Behaves, Agree, AgreeThroughout}
 use Rattle.plcx_meaning.specs.Fits.{PouFits, ProjectFits}
+use Rattle.plcx_meaning.specs.Laws.{OfPrograms, StatesAgree}
 use Rattle.plcx_meaning.proofs.Alike.{Alike, Nothing, unheard_agrees, unheard_alike}
 use Rattle.plcx_meaning.proofs.Lists.{each_at, each_from, each_weaker, each_flat_map}
 use Rattle.plcx_meaning.proofs.Names.{memory_own}
@@ -201,8 +202,5 @@ module _ (project : Project) (fits : ProjectFits project) (p : Pou) (there : Con
 pub all_behave : (project : Project) → ProjectFits project → Behaves project (unit_of project)
 all_behave project fits name p named = (pou_text p, program_text name project ∙ ap (option_map pou_text) named, program_same project fits p (program_there name project p named))
 
-pub all_agree : (project : Project) → ProjectFits project → (name : List ℕ) (p : Pou) → program_named name project ≡ Some p
-    → (kept : Path → ℤ) (es : List Event) → CanFollow (diagram_machine project p) (begin_side (diagram_machine project p) kept) es → (turns : ℕ)
-    → AgreeThroughout (diagram_machine project p) (text_machine (unit_of project) (pou_text p)) turns es
-    (begin_side (diagram_machine project p) kept) (begin_side (text_machine (unit_of project) (pou_text p)) kept)
+pub all_agree : OfPrograms StatesAgree
 all_agree project fits name p named = program_agrees project fits p (program_there name project p named)

@@ -10,7 +10,7 @@ use Rattle.plcx_meaning.specs.Fits.{PortsFit}
 use Rattle.plcx_meaning.proofs.Lists.{contains_first, contains_later, each_weaker, IsNew, distinct_parts, distinct_from}
 
 -- what passes a test is among what is tested
-passing_among : {A : Type 0} (test : A → Bool) (xs : List A) → Each (Contains xs) (filter test xs)
+pub passing_among : {A : Type 0} (test : A → Bool) (xs : List A) → Each (Contains xs) (filter test xs)
 passing_among test [] = tt
 passing_among {A} test (x ∷ xs) = by (test x) (each_weaker (Contains xs) (Contains (x ∷ xs)) (filter test xs) (λ y. contains_later x xs y) (passing_among test xs))
   where

@@ -30,7 +30,7 @@ pub mod Traced
 pub mod Turns
 pub mod Fuel
 pub mod FuelOfDiagrams
-pub mod Hearing
+pub mod HeardBefore
 mod ExamplesFit
 pub mod Stuck
 pub mod StuckBodies
@@ -43,3 +43,5 @@ pub mod ReadyBodies
 pub mod ReadyNames
 pub mod ReadySizes
 pub mod ReadyUnits
+pub mod LeafPaths
+pub mod LeafScopes

@@ -47,7 +47,7 @@ wire_free : (id : ℕ) (pin : List ℕ) → is_listed (wire_name id pin) ≡ fal
 wire_free id pin = refl
 
 -- each variable is found under its own name
-named_each : (vs : List Variable) → are_distinct (map (λ (v : Variable). folded v.name) vs) ≡ true → Each (λ (v : Variable). variable_named (folded v.name) vs ≡ Some v) vs
+pub named_each : (vs : List Variable) → are_distinct (map (λ (v : Variable). folded v.name) vs) ≡ true → Each (λ (v : Variable). variable_named (folded v.name) vs ≡ Some v) vs
 named_each [] h = tt
 named_each (v ∷ vs) h =
     let parts = distinct_parts (folded v.name) (map (λ (w : Variable). folded w.name) vs) h in

@@ -6,7 +6,7 @@ use Rattle.plcx_meaning.specs.Base.{Path, same_path, is_declared}
 use Rattle.plcx_meaning.specs.Layout.{Leaf, declared_leaves, initial_in}
 use Rattle.plcx_meaning.proofs.Names.{bytes_same}
 
-path_same : (p q : Path) → same_path p q ≡ true → p ≡ q
+pub path_same : (p q : Path) → same_path p q ≡ true → p ≡ q
 path_same [] [] h = refl
 path_same [] (y ∷ q) h = absurd (cc)
 path_same (x ∷ p) [] h = absurd (cc)

@@ -105,7 +105,7 @@ found_has P key (w ∷ vs) v all h = by_test (bytes_eq (folded w.name) key) (fou
     by_test true later e = let same : w ≡ v = cc in subst P same all.0
     by_test false later e = later e
 
-block_has : (P : PouText → Type 0) (name : List ℕ) (unit : List PouText) (q : PouText) → Each P unit → block_named name unit ≡ Some q → P q
+pub block_has : (P : PouText → Type 0) (name : List ℕ) (unit : List PouText) (q : PouText) → Each P unit → block_named name unit ≡ Some q → P q
 block_has P name [] q all h = absurd (cc)
 block_has P name (p ∷ ps) q all h = by_test (not (is_program p.kind) && bytes_eq (folded p.name) (folded name)) (block_has P name ps q all.1) h
   where

@@ -1,6 +1,6 @@
 -- What is declared at a path, and the leaves of a program.
 use Rattle.std.specs.Prelude.{◌≡◌, ℕ, zero, suc, ℤ, pos, Bool, true, false, not, ◌&&◌, ◌||◌, List, [], ◌∷◌, Option, Some, None, map, filter, if◌then◌else◌}
-use Rattle.std.specs.List.{flat_map}
+use Rattle.std.specs.List.{list_any, flat_map}
 use Rattle.std.specs.Str.{bytes_eq}
 use Rattle.plcx_types.specs.declared.ty.Ty.{Ty}
 use Rattle.plcx_types.specs.Name.{folded}
@@ -171,6 +171,16 @@ layout c = leaves 18 c [] c.own
 -- the leaves that a declaration made, in order
 abbrev pub declared_leaves : List Leaf → List Leaf
 declared_leaves ls = filter (λ (leaf : Leaf). is_declared leaf.path) ls
+
+-- no path stands twice
+abbrev pub all_apart : List Path → Bool
+all_apart [] = true
+all_apart (p ∷ ps) = not (list_any (same_path p) ps) && all_apart ps
+
+-- no two leaves have one path, and each begins with a number of its type
+pub record IsLayout (ls : List Leaf) : Type 0 where
+  pub apart : all_apart (map (λ (leaf : Leaf). leaf.path) ls) ≡ true
+  pub initial : Each (λ (leaf : Leaf). InRange leaf.ty leaf.initial) ls
 
 -- the path is the spelled one without case
 abbrev pub IsSpelled : Leaf → Type 0

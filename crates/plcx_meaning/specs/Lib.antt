@@ -20,6 +20,7 @@ pub mod Typed
 pub mod Ready
 -- What is said of the definitions alone.
 pub mod Turns
+pub mod Laws
 -- Worked examples.
 pub mod Pieces
 pub mod ExampleRungs

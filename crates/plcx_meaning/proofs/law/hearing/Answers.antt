@@ -1,4 +1,4 @@
-use Rattle.plcx_meaning.proofs.Hearing.{program_earlier, blocks_earlier, elements_law}
+use Rattle.plcx_meaning.proofs.HeardBefore.{program_earlier, blocks_earlier, elements_law}
 use Rattle.plcx_meaning.proofs.law.hearing.Goals as goal
 
 pub returns-clause-program : goal.returns-clause-program
