@@ -1,12 +1,12 @@
 -- Three of the examples meet what the checks of a project promise.
-use Rattle.std.proofs.Common.{◌≡◌, ◌≢◌, ◌<◌, ◌^◌, ℕ, suc, true, false, Bool, ◌&&◌, List, [], ◌∷◌, map, filter, length, Option, Some, None, refl, sym, ap, ◌∙◌, subst, arith, leb-true}
-use Rattle.std.specs.Prelude.{pos, IsTrue, nat_le, if◌then◌else◌}
-use Rattle.std.specs.List.{list_all, Contains}
+use Rattle.std.proofs.Common.{◌≡◌, ◌≢◌, ◌<◌, ◌^◌, ℕ, suc, true, false, Bool, ◌&&◌, List, [], ◌∷◌, map, filter, length, Option, Some, None, refl, sym, ◌∙◌, subst, arith, leb-true}
+use Rattle.std.specs.Prelude.{pos, nat_le, if◌then◌else◌}
+use Rattle.std.specs.List.{list_all}
 use Rattle.std.specs.Str.{bytes_eq}
 use Rattle.std.proofs.lemmas.Bool.{and_parts}
 use Rattle.plcx_types.specs.declared.ty.Ty.{Ty}
 use Rattle.plcx_types.specs.declared.ty.Ty.TheVariants as ty
-use Rattle.plcx_types.specs.Name.{folded, is_identifier, is_next_byte}
+use Rattle.plcx_types.specs.Name.{folded, is_next_byte}
 use Rattle.plcx_types.specs.TypeName.{type_named}
 use Rattle.plcx_std.specs.Kind.{kind_named}
 use Rattle.plcx_meaning.specs.Base.{Each, are_distinct}
