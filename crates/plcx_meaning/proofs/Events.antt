@@ -1,5 +1,5 @@
 -- Lists of scans and restarts: the text of a project does what the project does.
-use Rattle.std.proofs.Common.{◌≡◌, ◌≢◌, ℕ, zero, suc, ℤ, Bool, true, false, ◌&&◌, List, Some, [], ◌∷◌, refl, sym, ap, ap₂, ◌∙◌, subst, if◌then◌else◌}
+use Rattle.std.proofs.Common.{◌≡◌, ◌≢◌, ℕ, zero, suc, ℤ, Bool, true, false, ◌&&◌, List, [], ◌∷◌, refl, sym, ap, ap₂, ◌∙◌, subst, if◌then◌else◌}
 use Rattle.std.specs.Prelude.{not}
 use Rattle.std.specs.List.{Contains}
 use Rattle.std.specs.Option.{option_map}
@@ -10,8 +10,8 @@ use Rattle.plcx_types.specs.Reserved.{is_own}
 use Rattle.plcx_meaning.specs.Base.{Path, is_declared, Memory, Outcome, Ended, Stopped, Stuck, Each}
 use Rattle.plcx_meaning.specs.Tree.{Mark}
 use Rattle.plcx_meaning.specs.Layout.{Variable, Meaning, Elementary, Composed, meaning, Scope, is_retained, initial_at, Spelling, path_of, Leaf, is_outside, is_constant, leaf_of, is_kept, variable_leaves, leaves, layout, initial_in, IsSpelled, IsOutside, Restart, Warm, Cold, restarted}
-use Rattle.plcx_meaning.specs.Run.{Input, Event, Scan, Again, put_inputs, Halted, NoStep, TheStop, Side, told_of, side_after, begin_side, IsInput, AreEvents, CanFollow}
-use Rattle.plcx_meaning.specs.Diagram.{Pou, Project, program_named}
+use Rattle.plcx_meaning.specs.Run.{Input, Event, Scan, Again, put_inputs, Halted, NoStep, TheStop, Side, told_of, side_after, begin_side, IsInput, AreEvents}
+use Rattle.plcx_meaning.specs.Diagram.{Pou, Project}
 use Rattle.plcx_meaning.specs.Evaluate.{DiagramState, scope_of, restarted_memories, diagram_machine}
 use Rattle.plcx_meaning.specs.Execute.{TextState, TextSetting, TextCalls, text_machine}
 use Rattle.plcx_meaning.specs.Execute as text

@@ -1,6 +1,5 @@
 -- The scopes of a project that fits, and of a unit that is ready.
-use Rattle.std.proofs.Common.{◌≡◌, ℕ, true, false, List, [], ◌∷◌, Option, Some, None, map, filter, refl, sym, ap, ◌∙◌}
-use Rattle.std.specs.List.{Contains}
+use Rattle.std.proofs.Common.{◌≡◌, ℕ, true, List, [], Option, Some, None, map, filter, refl}
 use Rattle.plcx_types.specs.Name.{folded}
 use Rattle.plcx_std.specs.declared.kind.StdKind.{StdKind}
 use Rattle.plcx_std.specs.declared.kind.StdKind.TheVariants as kind
@@ -11,14 +10,14 @@ use Rattle.plcx_std.specs.Pins.{pins}
 use Rattle.plcx_meaning.specs.Base.{Each, are_distinct}
 use Rattle.plcx_meaning.specs.Tree.{Class, Local, Input, Output, Plain, PouText}
 use Rattle.plcx_meaning.specs.Standard.{pin_declaration, has_role, pin_block, pin_blocks}
-use Rattle.plcx_meaning.specs.Layout.{Variable, InitialIsTyped, variable, block_variables, variables_of, composed}
+use Rattle.plcx_meaning.specs.Layout.{Variable, InitialIsTyped, variable, block_variables, variables_of}
 use Rattle.plcx_meaning.specs.Diagram.{Pou, Project}
 use Rattle.plcx_meaning.specs.Diagram as diagram
 use Rattle.plcx_meaning.specs.Evaluate as evaluate
 use Rattle.plcx_meaning.specs.Execute as text
 use Rattle.plcx_meaning.specs.Fits.{VariableFits, PouFits, ProjectFits}
 use Rattle.plcx_meaning.specs.Ready.{VariableIsReady, PouIsReady, IsReady}
-use Rattle.plcx_meaning.proofs.Lists.{each_at, each_from, each_weaker, each_map, each_flat_map}
+use Rattle.plcx_meaning.proofs.Lists.{each_from, each_weaker, each_map, each_flat_map}
 use Rattle.plcx_meaning.proofs.StaticsWorlds.{block_fits}
 use Rattle.plcx_meaning.proofs.StuckBodies.{block_has}
 use Rattle.plcx_meaning.proofs.LeafPaths.{AreNamed, IsProper}

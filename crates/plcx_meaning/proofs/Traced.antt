@@ -1,10 +1,9 @@
 -- Sides that are the same have the same traces.
-use Rattle.std.proofs.Common.{◌≡◌, ℕ, ℤ, Bool, true, false, true≢false, List, [], ◌∷◌, Some, filter, refl, sym, ap, ap₂, ◌∙◌, if◌then◌else◌}
-use Rattle.plcx_meaning.specs.Base.{Path, is_declared, Each}
-use Rattle.plcx_meaning.specs.Layout.{Leaf, declared_leaves, initial_in, IsOutside, IsRetainedState}
-use Rattle.plcx_meaning.specs.Run.{Event, Machine, Side, after, begin_side, AreEvents, CanFollow}
+use Rattle.std.proofs.Common.{◌≡◌, ℕ, Bool, true, false, true≢false, List, [], ◌∷◌, filter, refl, sym, ap, ap₂, ◌∙◌, if◌then◌else◌}
+use Rattle.plcx_meaning.specs.Base.{is_declared, Each}
+use Rattle.plcx_meaning.specs.Layout.{Leaf, declared_leaves, initial_in, IsOutside}
+use Rattle.plcx_meaning.specs.Run.{Event, Machine, Side, after, begin_side}
 use Rattle.plcx_meaning.specs.Same.{SameValues, SameRuns}
-use Rattle.plcx_meaning.specs.Diagram.{Pou, Project, program_named}
 use Rattle.plcx_meaning.specs.Evaluate.{diagram_machine, scope_of}
 use Rattle.plcx_meaning.specs.Execute.{text_machine}
 use Rattle.plcx_meaning.specs.Execute as text
@@ -12,7 +11,7 @@ use Rattle.plcx_meaning.specs.Templates.{pou_text, unit_of}
 use Rattle.plcx_meaning.specs.Laws.{OfPrograms, TracesAgree, StartsAgree}
 use Rattle.plcx_meaning.proofs.Units.{program_there}
 use Rattle.plcx_meaning.proofs.Events.{layout_outside, program_same, starts_same, starts_run}
-use Rattle.plcx_meaning.specs.Traces.{line, trace_of, values_at, shown_values, retained_values, lines_from, side_at_end, trace_from, diagram_trace, text_trace}
+use Rattle.plcx_meaning.specs.Traces.{line, trace_of, values_at, shown_values, retained_values, lines_from, side_at_end, trace_from}
 
 -- what is shown is declared
 shown_declared : (ls : List Leaf) → Each IsOutside ls → filter (λ (leaf : Leaf). leaf.shown) ls ≡ filter (λ (leaf : Leaf). leaf.shown) (declared_leaves ls)

@@ -1,5 +1,5 @@
 -- What the laws say, each of its subject.
-use Rattle.std.specs.Prelude.{◌≡◌, ◌≢◌, ◌+◌, ℕ, ℤ, Bool, List, Some, slice_get, if◌then◌else◌}
+use Rattle.std.specs.Prelude.{◌≡◌, ◌≢◌, ◌+◌, ℕ, ℤ, List, Some, slice_get, if◌then◌else◌}
 use Rattle.plcx_meaning.specs.Base.{Path, Site, Stuck, Ended, then_do, spend}
 use Rattle.plcx_meaning.specs.Tree.{Expression, Statement, While, Statements, PouText}
 use Rattle.plcx_meaning.specs.Layout.{initial_in, IsRetainedState}
