@@ -7,7 +7,8 @@ use Rattle.plcx_types.specs.declared.ty.Ty.TheVariants as ty
 use Rattle.plcx_types.specs.Name.{folded}
 use Rattle.plcx_funcs.specs.declared.func.Func.{Func}
 use Rattle.plcx_meaning.specs.Functions.{out_type}
-use Rattle.plcx_meaning.specs.Tree.{PouKind, Program, FunctionBlock, Block}
+use Rattle.plcx_meaning.specs.Tree.{PouKind, Block}
+pub use Rattle.plcx_meaning.specs.Tree.{is_program}
 
 -- What a pin is wired to. An output is named by its element's number and its pin, which has the very bytes that it has among the element's ports.
 pub data Source : Type 0 where
@@ -188,10 +189,6 @@ is_label label e = elim e.kind [ Label name ↦ bytes_eq (folded name) (folded l
 abbrev pub target : List ℕ → List (List DiagramElement) → ℕ
 target label [] = 0
 target label (network ∷ networks) = if list_any (is_label label) network then 0 else target label networks + 1
-
-abbrev pub is_program : PouKind → Bool
-is_program Program = true
-is_program FunctionBlock = false
 
 -- the program of a name
 abbrev pub program_named : List ℕ → Project → Option Pou

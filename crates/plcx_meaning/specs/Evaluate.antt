@@ -36,26 +36,32 @@ pub record DiagramState : Type 0 where
 abbrev pub Wires : Type 0
 Wires = ℕ → List ℕ → ℤ
 
+-- before an element is evaluated, no output is fixed
 abbrev pub no_wires : Wires
 no_wires id pin = pos 0
 
+-- an output is fixed
 abbrev pub fix : Wires → ℕ → List ℕ → ℤ → Wires
 fix ws id pin v i p = if nat_eq i id && bytes_eq (folded p) (folded pin) then v else ws i p
 
+-- a leaf gets a value
 abbrev pub set_leaf : DiagramState → Path → ℤ → DiagramState
 set_leaf d p v = record d { store = put d.store p v }
 
+-- a memory gets a value
 abbrev pub set_memory : DiagramState → Path → Memory → ℤ → DiagramState
 set_memory d p k v = record d { memories = put_memory d.memories p k v }
 
--- the leaf that a name stands for: an in-out's is the one that it is bound to
+-- the variable is an in-out
 abbrev pub is_in_out : Option Variable → Bool
 is_in_out None = false
 is_in_out (Some v) = elim v.class [ tree.InOut ↦ true | _ ↦ false ]
 
+-- the leaf that a name stands for: that of an in-out is the one that it is bound to
 abbrev pub leaf_named : List Variable → Site → List ℕ → Path
 leaf_named vs site x = if is_in_out (variable_named (folded x) vs) then site.bound (folded x) else folded x ∷ site.path
 
+-- the leaf that is read: the one of a name, or an output within an instance
 abbrev pub operand_leaf : List Variable → Site → Operand → Path
 operand_leaf vs site (Own x) = leaf_named vs site x
 operand_leaf vs site (Output i x) = folded x ∷ folded i ∷ site.path
@@ -72,6 +78,7 @@ abbrev pub or_all : ℤ → List ℤ → ℤ
 or_all v [] = v
 or_all v (w ∷ rest) = or_all (or_of v w) rest
 
+-- the value at an input pin: the OR of its sources, or its opposite
 abbrev pub link_value : Path → DiagramState → Wires → Link → ℤ
 link_value path d ws link = not_if link.negated (or_all (source_value path d ws link.first) (map (source_value path d ws) link.others))
 
@@ -106,6 +113,7 @@ coil_does FallingCoil leaf p id l d = set_memory (set_leaf d leaf (and_of (not_o
 abbrev pub enable_value : (Link → ℤ) → Enable → ℤ
 enable_value values enable = elim enable.en [ Some link ↦ values link | None ↦ pos 1 ]
 
+-- ENO is fixed where the block has it
 abbrev pub fix_eno : Enable → ℕ → ℤ → Wires → Wires
 fix_eno enable id v ws = if has_eno enable then fix ws id (codes "ENO") v else ws
 
@@ -114,6 +122,7 @@ abbrev pub turn : Bool → ℕ → List ℕ → Wires → Wires
 turn true id pin ws = fix ws id pin (not_of (ws id pin))
 turn false id pin ws = ws
 
+-- what follows a result; a fault stops the scan
 abbrev pub with_result : {L : Type 0} → Result Value Fault → DiagramState → (ℤ → Outcome DiagramState L) → Outcome DiagramState L
 with_result (Ok v) d go = go v.n
 with_result (Err fault) d go = Stopped (Faulted fault) d
@@ -195,6 +204,7 @@ abbrev pub outputs_heard : (pou id number : ℕ) → List Port → Wires → Lis
 outputs_heard pou id n [] ws = []
 outputs_heard pou id n (p ∷ ps) ws = record { pou = pou; id = id; number = n; value = value p.ty (ws id p.pin) } ∷ outputs_heard pou id (n + 1) ps ws
 
+-- more is heard
 abbrev pub hear : List Heard → DiagramState → DiagramState
 hear hs d = record d { heard = d.heard ++ hs }
 
@@ -202,6 +212,7 @@ hear hs d = record d { heard = d.heard ++ hs }
 abbrev pub element_does : DiagramElement → DiagramSetting → DiagramState → Wires → Outcome DiagramState Wires
 element_does e c d ws = then_do (kind_does e.kind e.id c d ws) (λ d' ws'. Ended (hear (outputs_heard c.pou e.id 0 (ports e.kind) ws') (feed e.id e.fed c.site.path ws' d')) ws')
 
+-- elements one after another
 abbrev pub elements_do : List DiagramElement → DiagramSetting → DiagramState → Wires → Outcome DiagramState Wires
 elements_do [] c d ws = Ended d ws
 elements_do (e ∷ es) c d ws = then_do (element_does e c d ws) (λ d' ws'. elements_do es c d' ws')
@@ -217,6 +228,7 @@ leads_to networks (Jump label link) = Some (target label networks)
 leads_to networks (Return link) = Some (length networks)
 leads_to networks _ = None
 
+-- where a jump or a return leads if its condition is TRUE, else what follows anyway
 abbrev pub chosen : Option ℕ → ℤ → ℕ → ℕ
 chosen None v other = other
 chosen (Some n) v other = if is_true v then n else other
@@ -226,6 +238,7 @@ abbrev pub successor : List (List DiagramElement) → List DiagramElement → �
 successor networks [] next ws = next
 successor networks (e ∷ es) next ws = chosen (leads_to networks e.kind) (ws e.id []) (successor networks es next ws)
 
+-- what follows at a network; behind the last one the body ends
 abbrev pub at_network : Option (List DiagramElement) → DiagramState → (List DiagramElement → Outcome DiagramState (Unit {0})) → Outcome DiagramState (Unit {0})
 at_network None d go = Ended d tt
 at_network (Some network) d go = go network
@@ -239,6 +252,7 @@ jumping (suc n) networks c i d =
     spend d.left d (λ left.
     then_do (elements_do network c (record d { left = left }) no_wires) (λ d' ws. jumping n networks c (successor networks network (i + 1) ws) d')))
 
+-- a body, which has jumps or returns or not
 abbrev pub body_does : List (List DiagramElement) → DiagramSetting → DiagramState → Outcome DiagramState (Unit {0})
 body_does networks c d = if has_jump networks then jumping d.left networks c 0 d else straight networks c d
 
@@ -261,12 +275,15 @@ blocks_do zero time project type site d = Stuck
 blocks_do (suc n) time project type site d =
     found (block_named type project) (λ p. pou_does project (with_standard time (blocks_do n time project)) p site d)
 
+-- a program, below which stand 16 levels of function blocks at most
 abbrev pub program_does : (time : ℕ) → Project → Pou → DiagramState → Outcome DiagramState (Unit {0})
 program_does time project p d = pou_does project (with_standard time (blocks_do 16 time project)) p top d
 
+-- what the names of a project's function blocks declare
 abbrev pub world_of : Project → World
 world_of project key = elim (block_named key project) [ Some p ↦ p.lists | None ↦ [] ]
 
+-- a program with what its types stand for
 abbrev pub scope_of : Project → Pou → Scope
 scope_of project p = record { world = world_of project; own = variables_of p.lists }
 

@@ -13,11 +13,10 @@ use Rattle.plcx_funcs.specs.declared.func.Func.TheVariants as func
 use Rattle.plcx_funcs.specs.Names.{function_named}
 use Rattle.plcx_funcs.specs.Applied.{value}
 use Rattle.plcx_meaning.specs.Base.{Path, is_true, put, Faulted, OutOfTurns, Outcome, Ended, Stopped, Stuck, then_do, spend, found, Site, top}
-use Rattle.plcx_meaning.specs.Tree.{Class, Local, Input, Output, InOut, Temp, Operator, Or, Xor, And, Equal, NotEqual, Less, Greater, LessOrEqual, GreaterOrEqual, Plus, Minus, Times, Divide, Mod, Expression, Number, Name, Member, Apply, Not, Binary, Expressions, no_expression, expression, Argument, Statement, Assign, Call, If, While, Case, Statements, no_statement, statement, Arms, no_arm, arm, PouText}
+use Rattle.plcx_meaning.specs.Tree.{Class, Local, Input, Output, InOut, Temp, Operator, Or, Xor, And, Equal, NotEqual, Less, Greater, LessOrEqual, GreaterOrEqual, Plus, Minus, Times, Divide, Mod, Expression, Number, Name, Member, Apply, Not, Binary, Expressions, no_expression, expression, Argument, Statement, Assign, Call, If, While, Case, Statements, no_statement, statement, Arms, no_arm, arm, is_program, PouText}
 use Rattle.plcx_meaning.specs.Layout.{Variable, variables_of, variable_named, initial_of, World, Meaning, Elementary, Composed, meaning, parts_of, Scope, layout, begun, restarted}
 use Rattle.plcx_meaning.specs.Standard.{called}
 use Rattle.plcx_meaning.specs.Functions.{Answer, Given, Faulty, Missing, on_value, call_function, call_named}
-use Rattle.plcx_meaning.specs.Diagram.{is_program}
 use Rattle.plcx_meaning.specs.Run.{put_inputs, Machine}
 
 -- what a name means: a temporary, a variable or an in-out of a type, or an instance of the type of a name
@@ -26,6 +25,7 @@ pub data Referent : Type 0 where
   Instance : (type : List ℕ) → Referent
   Unknown : Referent
 
+-- a variable of an elementary type, by its class
 abbrev pub elementary : Class → Ty → Referent
 elementary Local t = Kept t
 elementary Input t = Kept t
@@ -33,10 +33,12 @@ elementary Output t = Kept t
 elementary InOut t = Bound t
 elementary Temp t = Temporary t
 
+-- what a variable is, by what its type stands for
 abbrev pub referent_by : Meaning → Class → List ℕ → Referent
 referent_by (Elementary t) class type = elementary class t
 referent_by (Composed vs) class type = Instance type
 
+-- what a variable is; Unknown where there is none
 abbrev pub referent : World → Option Variable → Referent
 referent world None = Unknown
 referent world (Some v) = referent_by (meaning world v.ty) v.class v.ty
@@ -47,6 +49,7 @@ pub record TextSetting : Type 0 where
   pub variables : List Variable
   pub site : Site
 
+-- what a name means where a statement stands
 abbrev pub referent_of : TextSetting → List ℕ → Referent
 referent_of c x = referent c.world (variable_named (folded x) c.variables)
 
@@ -63,9 +66,11 @@ Frame = List ℕ → ℤ
 abbrev pub fresh : List Variable → Frame
 fresh vs key = initial_of (variable_named key vs)
 
+-- a temporary gets a value
 abbrev pub hold : Frame → List ℕ → ℤ → Frame
 hold f x v key = if bytes_eq key (folded x) then v else f key
 
+-- what follows a value; a fault stops the scan, and without a meaning there is no step
 abbrev pub with_value : {A L : Type 0} → Answer A → TextState → (A → Outcome TextState L) → Outcome TextState L
 with_value (Given x) g go = go x
 with_value (Faulty fault) g go = Stopped (Faulted fault) g
@@ -83,6 +88,7 @@ leaf_at (Temporary t) x site = []
 leaf_at (Instance type) x site = []
 leaf_at Unknown x site = []
 
+-- the value that a name has, with its declared type
 abbrev pub read : Referent → List ℕ → Site → (Path → ℤ) → Frame → Answer Value
 read (Kept t) x site s f = Given (value t (s (folded x ∷ site.path)))
 read (Bound t) x site s f = Given (value t (s (site.bound (folded x))))
@@ -94,6 +100,7 @@ read Unknown x site s f = Missing
 abbrev pub parts_named : TextSetting → List ℕ → List Variable
 parts_named c i = parts_of c.world (variable_named (folded i) c.variables)
 
+-- what can be read from outside of an instance: an output of an elementary type
 abbrev pub read_member : Meaning → Class → Path → (Path → ℤ) → Answer Value
 read_member (Elementary t) Output p s = Given (value t (s p))
 read_member (Elementary t) _ p s = Missing
@@ -104,6 +111,7 @@ abbrev pub read_output : World → Option Variable → Path → (Path → ℤ) �
 read_output world None p s = Missing
 read_output world (Some v) p s = read_member (meaning world v.ty) v.class p s
 
+-- the function of an operator
 abbrev pub function_of : Operator → Func
 function_of Or = func.Or
 function_of Xor = func.Xor
@@ -122,6 +130,7 @@ function_of Mod = func.Mod
 
 -- all operands are evaluated, from the left
 abbrev mutual
+  -- the value of an expression
   pub value_of : Expression → TextSetting → (Path → ℤ) → Frame → Answer Value
   value_of (Number v) c s f = Given v
   value_of (Name x) c s f = read (referent_of c x) x c.site s f
@@ -130,6 +139,7 @@ abbrev mutual
   value_of (Not e) c s f = on_value (value_of e c s f) (λ v. call_function func.Not (v ∷ []))
   value_of (Binary op a b) c s f = on_value (value_of a c s f) (λ v. on_value (value_of b c s f) (λ w. call_function (function_of op) (v ∷ w ∷ [])))
 
+  -- the values of several expressions, from the first on
   pub values_of : Expressions → TextSetting → (Path → ℤ) → Frame → Answer (List Value)
   values_of no_expression c s f = Given []
   values_of (expression e es) c s f = on_value (value_of e c s f) (λ v. on_value (values_of es c s f) (λ vs. Given (v ∷ vs)))
@@ -147,19 +157,23 @@ pub data Formal : Type 0 where
   Takes Binds : Ty → Formal
   NoFormal : Formal
 
+-- what a variable is as a formal name, by what its type stands for and its class
 abbrev pub formal_by : Meaning → Class → Formal
 formal_by (Elementary t) Input = Takes t
 formal_by (Elementary t) InOut = Binds t
 formal_by (Elementary t) _ = NoFormal
 formal_by (Composed vs) class = NoFormal
 
+-- what a variable of the instance is as a formal name; none where there is no variable
 abbrev pub formal : World → Option Variable → Formal
 formal world None = NoFormal
 formal world (Some v) = formal_by (meaning world v.ty) v.class
 
+-- what a formal name of a call of this instance is
 abbrev pub formal_named : TextSetting → List ℕ → List ℕ → Formal
 formal_named c i x = formal c.world (variable_named (folded x) (parts_named c i))
 
+-- a variable of this type with a leaf, its own or one that it is bound to
 abbrev pub has_leaf : Referent → Ty → Bool
 has_leaf (Kept u) t = same_ty u t
 has_leaf (Bound u) t = same_ty u t
@@ -167,6 +181,7 @@ has_leaf (Temporary u) t = false
 has_leaf (Instance type) t = false
 has_leaf Unknown t = false
 
+-- what an expression means as the variable for an in-out: it is a name
 abbrev pub referent_in : TextSetting → Expression → Referent
 referent_in c (Name x) = referent_of c x
 referent_in c _ = Unknown
@@ -177,15 +192,18 @@ store_argument (Takes t) a c p old f g go = with_value (value_of a.value c old.s
 store_argument (Binds t) a c p old f g go = if has_leaf (referent_in c a.value) t then go g else Stuck
 store_argument NoFormal a c p old f g go = Stuck
 
+-- the arguments one after another, by their formal names
 abbrev pub store_arguments : List Argument → TextSetting → List ℕ → TextState → Frame → TextState → (TextState → Outcome TextState Frame) → Outcome TextState Frame
 store_arguments [] c i old f g go = go g
 store_arguments (a ∷ rest) c i old f g go =
     store_argument (formal_named c i a.formal) a c (folded a.formal ∷ folded i ∷ c.site.path) old f g (λ h. store_arguments rest c i old f h go)
 
+-- the leaf of the variable that an expression names
 abbrev pub leaf_in : TextSetting → Expression → Path
 leaf_in c (Name x) = leaf_at (referent_of c x) x c.site
 leaf_in c _ = []
 
+-- the formal name is an in-out
 abbrev pub binds : Formal → Bool
 binds (Takes t) = false
 binds (Binds t) = true
@@ -200,9 +218,11 @@ bind (a ∷ rest) c i key = if binds (formal_named c i a.formal) && bytes_eq (fo
 abbrev pub is_bound : List Argument → Variable → Bool
 is_bound args v = elim v.class [ InOut ↦ list_any (λ (a : Argument). bytes_eq (folded a.formal) (folded v.name)) args | _ ↦ true ]
 
+-- each in-out of the instance has an argument
 abbrev pub all_bound : List Argument → List Variable → Bool
 all_bound args vs = list_all (is_bound args) vs
 
+-- the name of the type, where a name means an instance
 abbrev pub type_of_instance : Referent → Option (List ℕ)
 type_of_instance (Instance type) = Some type
 type_of_instance (Kept t) = None
@@ -229,11 +249,13 @@ turns (suc n) test body g f =
     with_truth (test g f) g (λ b.
     if b then spend g.left g (λ left. then_do (body (record g { left = left }) f) (turns n test body)) else Ended g f)
 
+-- a number is that of a label
 abbrev pub selects : ℤ → ℕ → Bool
 selects (pos m) n = nat_eq m n
 selects (negsuc m) n = false
 
 abbrev mutual
+  -- the effect of a statement
   pub statement_runs : Statement → TextSetting → TextCalls → TextState → Frame → Outcome TextState Frame
   statement_runs (Assign x e) c call g f = with_value (value_of e c g.store f) g (λ v. assign (referent_of c x) x c.site v g f)
   statement_runs (Call i args) c call g f = call_runs i args c call g f
@@ -241,6 +263,7 @@ abbrev mutual
   statement_runs (While e ss) c call g f = turns g.left (λ h l. value_of e c h.store l) (statements_run ss c call) g f
   statement_runs (Case e arms) c call g f = with_value (value_of e c g.store f) g (λ v. if same_ty v.ty ty.Dint then arms_run arms c call v.n g f else Stuck)
 
+  -- statements within a statement, one after another
   pub statements_run : Statements → TextSetting → TextCalls → TextState → Frame → Outcome TextState Frame
   statements_run no_statement c call g f = Ended g f
   statements_run (statement s ss) c call g f = then_do (statement_runs s c call g f) (statements_run ss c call)
@@ -250,6 +273,7 @@ abbrev mutual
   arms_run no_arm c call n g f = Ended g f
   arms_run (arm label ss rest) c call n g f = if selects n label then statements_run ss c call g f else arms_run rest c call n g f
 
+-- statements one after another
 abbrev pub list_runs : List Statement → TextSetting → TextCalls → TextState → Frame → Outcome TextState Frame
 list_runs [] c call g f = Ended g f
 list_runs (s ∷ ss) c call g f = then_do (statement_runs s c call g f) (list_runs ss c call)
@@ -269,6 +293,7 @@ abbrev pub block_named : List ℕ → List PouText → Option PouText
 block_named name [] = None
 block_named name (p ∷ ps) = if not (is_program p.kind) && bytes_eq (folded p.name) (folded name) then Some p else block_named name ps
 
+-- what the names of a unit's function blocks declare
 abbrev pub world_of : List PouText → World
 world_of unit key = elim (block_named key unit) [ Some p ↦ p.blocks | None ↦ [] ]
 
@@ -282,9 +307,11 @@ blocks_run zero time unit type site g = Stuck
 blocks_run (suc n) time unit type site g =
     found (block_named type unit) (λ p. pou_runs p (world_of unit) (with_standard time (blocks_run n time unit)) site g)
 
+-- a program, below which stand 16 levels of function blocks at most
 abbrev pub program_runs : (time : ℕ) → List PouText → PouText → TextState → Outcome TextState (Unit {0})
 program_runs time unit p g = pou_runs p (world_of unit) (with_standard time (blocks_run 16 time unit)) top g
 
+-- a program with what its types stand for
 abbrev pub scope_of : List PouText → PouText → Scope
 scope_of unit p = record { world = world_of unit; own = variables_of p.blocks }
 

@@ -21,14 +21,17 @@ use Rattle.plcx_std.specs.State.{stepped, values}
 use Rattle.plcx_meaning.specs.Base.{Path, put, is_true}
 use Rattle.plcx_meaning.specs.Tree.{Class, Local, Input, Output, Plain, Declaration, Block}
 
+-- the declaration of a pin
 abbrev pub pin_declaration : Pin → Declaration
 pin_declaration p = record { name = p.name; address = None; ty = type_name p.ty; initial = None }
 
+-- the pin has this role
 abbrev pub has_role : Role → Pin → Bool
 has_role role.In p = elim p.role [ role.In ↦ true | role.Out ↦ false | role.Hidden ↦ false ]
 has_role role.Out p = elim p.role [ role.In ↦ false | role.Out ↦ true | role.Hidden ↦ false ]
 has_role role.Hidden p = elim p.role [ role.In ↦ false | role.Out ↦ false | role.Hidden ↦ true ]
 
+-- the pins of a role, as a block of declarations
 abbrev pub pin_block : Class → Role → StdKind → Block
 pin_block class r k = record { class = class; mark = Plain; declarations = map pin_declaration (filter (has_role r) (pins k)) }
 
@@ -40,6 +43,7 @@ pin_blocks k = pin_block Input role.In k ∷ pin_block Output role.Out k ∷ pin
 abbrev pub Leaves : Type 0
 Leaves = List ℕ → ℤ
 
+-- the leaves of a TON
 abbrev pub on_delay : Leaves → OnDelay
 on_delay at = record {
   input = is_true (at (codes "in"));
@@ -50,6 +54,7 @@ on_delay at = record {
   start = at (codes "start");
 }
 
+-- the leaves of a TOF or a TP
 abbrev pub timer : Leaves → Timer
 timer at = record {
   input = is_true (at (codes "in"));
@@ -61,6 +66,7 @@ timer at = record {
   start = at (codes "start");
 }
 
+-- the leaves of a CTU
 abbrev pub up_counter : Leaves → UpCounter
 up_counter at = record {
   up = is_true (at (codes "cu"));
@@ -71,6 +77,7 @@ up_counter at = record {
   memory = is_true (at (codes "m"));
 }
 
+-- the leaves of a CTD
 abbrev pub down_counter : Leaves → DownCounter
 down_counter at = record {
   down = is_true (at (codes "cd"));
@@ -81,6 +88,7 @@ down_counter at = record {
   memory = is_true (at (codes "m"));
 }
 
+-- the leaves of a CTUD
 abbrev pub up_down_counter : Leaves → UpDownCounter
 up_down_counter at = record {
   up = is_true (at (codes "cu"));
@@ -95,6 +103,7 @@ up_down_counter at = record {
   memory_down = is_true (at (codes "md"));
 }
 
+-- the leaves of an SR
 abbrev pub set_first : Leaves → Latch
 set_first at = record {
   set = is_true (at (codes "s1"));
@@ -102,6 +111,7 @@ set_first at = record {
   output = is_true (at (codes "q1"));
 }
 
+-- the leaves of an RS
 abbrev pub reset_first : Leaves → Latch
 reset_first at = record {
   set = is_true (at (codes "s"));
@@ -109,6 +119,7 @@ reset_first at = record {
   output = is_true (at (codes "q1"));
 }
 
+-- the leaves of an R_TRIG or an F_TRIG
 abbrev pub edge : Leaves → Edge
 edge at = record {
   clock = is_true (at (codes "clk"));
@@ -116,6 +127,7 @@ edge at = record {
   memory = is_true (at (codes "m"));
 }
 
+-- the state of a standard block, by its leaves
 abbrev pub state_of : StdKind → Leaves → StdState
 state_of kind.Ton at = state.Ton (on_delay at)
 state_of kind.Tof at = state.Tof (timer at)

@@ -1,10 +1,15 @@
 -- Structured text without the places of its words. The declarations of a diagram are those of its text.
-use Rattle.std.specs.Prelude.{ℕ, List, [], ◌∷◌, Option}
+use Rattle.std.specs.Prelude.{ℕ, Bool, true, false, List, [], ◌∷◌, Option}
 use Rattle.plcx_types.specs.Value.{Value}
 
 -- what a POU is
 pub data PouKind : Type 0 where
   Program FunctionBlock : PouKind
+
+-- no function block
+abbrev pub is_program : PouKind → Bool
+is_program Program = true
+is_program FunctionBlock = false
 
 -- VAR, VAR_INPUT, VAR_OUTPUT, VAR_IN_OUT, VAR_TEMP
 pub data Class : Type 0 where
