@@ -68,6 +68,7 @@ pub record OutputPin : Type 0 where
   pub ty : Ty
   pub negated : Bool
 
+-- what an element is, with all that its effect takes
 pub data ElementKind : Type 0 where
   -- a rail, a comment or a vendor element, or an inVariable with a literal: it does nothing
   Still : ElementKind
@@ -106,9 +107,11 @@ pub record Pou : Type 0 where
   pub elements : List DiagramElement
   pub networks : List (List DiagramElement)
 
+-- its POUs, in the order of the file
 abbrev pub Project : Type 0
 Project = List Pou
 
+-- an output by its pin and its type
 abbrev pub port : List ℕ → Ty → Port
 port pin t = record { pin = pin; ty = t }
 
@@ -116,16 +119,20 @@ port pin t = record { pin = pin; ty = t }
 abbrev pub has_eno : Enable → Bool
 has_eno e = is_some e.en || is_some e.eno
 
+-- ENO is listed, and negated there
 abbrev pub eno_negated : Enable → Bool
 eno_negated e = elim e.eno [ Some negated ↦ negated | None ↦ false ]
 
+-- the output ENO, where a block has it
 abbrev pub eno_ports : Enable → List Port
 eno_ports e = if has_eno e then port (codes "ENO") ty.Bool ∷ [] else []
 
+-- the listed outputs of an instance, by their declared names
 abbrev pub output_ports : List OutputPin → List Port
 output_ports [] = []
 output_ports (o ∷ os) = port o.name o.ty ∷ output_ports os
 
+-- the link of EN, where it is connected
 abbrev pub enable_links : Enable → List Link
 enable_links e = elim e.en [ Some link ↦ link ∷ [] | None ↦ [] ]
 
@@ -157,10 +164,12 @@ links_of (Return link) = link ∷ []
 links_of (Function f t enable inputs negated) = enable_links enable ++ inputs
 links_of (Call instance enable inputs in_outs outputs) = enable_links enable ++ map (λ (i : InputPin). i.link) inputs
 
+-- the source reads this output as one that feeds back
 abbrev pub reads_back : ℕ → List ℕ → Source → Bool
 reads_back id pin (Back i p) = nat_eq i id && bytes_eq p pin
 reads_back id pin _ = false
 
+-- one of the sources of a link does
 abbrev pub link_reads_back : ℕ → List ℕ → Link → Bool
 link_reads_back id pin link = list_any (reads_back id pin) (link.first ∷ link.others)
 
@@ -176,12 +185,15 @@ has_edge (Coil RisingCoil x link) = true
 has_edge (Coil FallingCoil x link) = true
 has_edge _ = false
 
+-- a jump or a return
 abbrev pub is_jump : DiagramElement → Bool
 is_jump e = elim e.kind [ Jump label link ↦ true | Return link ↦ true | _ ↦ false ]
 
+-- a body with a jump or a return
 abbrev pub has_jump : List (List DiagramElement) → Bool
 has_jump networks = list_any (list_any is_jump) networks
 
+-- a label of this name, whatever the case of its letters
 abbrev pub is_label : List ℕ → DiagramElement → Bool
 is_label label e = elim e.kind [ Label name ↦ bytes_eq (folded name) (folded label) | _ ↦ false ]
 

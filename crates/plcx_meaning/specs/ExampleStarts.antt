@@ -13,6 +13,7 @@ use Rattle.plcx_meaning.specs.Pieces.{variable, starting, instance_of, listed, r
 abbrev pub idle : Pou
 idle = main (listed tree.Local (starting (codes "Y") ty.Int (pos 3) ∷ []) ∷ retained (starting (codes "X") ty.Int (pos 5) ∷ []) ∷ []) [] []
 
+-- one scan, without inputs
 abbrev pub one_scan_at_start : List Event
 one_scan_at_start = scan 0 [] ∷ []
 
@@ -24,9 +25,11 @@ idle_trace = trace_of (line TheEnd (pos 3 ∷ pos 5 ∷ []) ∷ []) (pos 5 ∷ [
 abbrev pub seven : {G : Type 0} → Machine G → Path → ℤ
 seven m = put (initial_in m.layout) (codes "x" ∷ []) (pos 7)
 
+-- a scan, a warm restart and a cold one
 abbrev pub both_restarts : List Event
 both_restarts = scan 0 [] ∷ Again Warm ∷ Again Cold ∷ []
 
+-- what that state shows
 abbrev pub seven_trace : Trace
 seven_trace = trace_of (
     line TheEnd (pos 3 ∷ pos 7 ∷ [])
@@ -41,6 +44,7 @@ spelled_so = main
     (reads 1 ty.Bool (codes "lamp") ∷ writes 2 (codes "LAMP") ty.Bool (wire 1) ∷ [])
     ((1 ∷ 2 ∷ []) ∷ [])
 
+-- its leaves as they are spelled
 abbrev pub spellings : List Spelling
 spellings =
     (codes "Lamp" ∷ [])
@@ -53,6 +57,7 @@ spellings =
     ∷ (codes "START" ∷ codes "myTimer" ∷ [])
     ∷ []
 
+-- and their paths
 abbrev pub paths : List Path
 paths =
     (codes "lamp" ∷ [])

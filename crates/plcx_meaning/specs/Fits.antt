@@ -53,6 +53,7 @@ pub record Standing : Type 0 where
   pub pou : Pou
   pub done : List (ℕ × Port)
 
+-- the variables of the POU that an element stands in
 abbrev pub variables : Standing → List Variable
 variables at = variables_of at.pou.lists
 
@@ -67,6 +68,7 @@ SourceFits at t (Literal negated n) = InRange t n × (negated ≡ true → t ≡
 SourceFits at t (Wire id pin) = Contains at.done (id, port pin t)
 SourceFits at t (Back id pin) = FeedsBack at.pou id (port pin t)
 
+-- the sources of a pin suit it, and there are at most 64
 pub record LinkFits (at : Standing) (link : Link) : Type 0 where
   pub first : SourceFits at link.ty link.first
   pub others : Each (SourceFits at link.ty) link.others
@@ -75,6 +77,7 @@ pub record LinkFits (at : Standing) (link : Link) : Type 0 where
   pub several : link.others ≢ [] → link.ty ≡ ty.Bool
   pub few : length link.others ≤ 63
 
+-- what is read is a variable of the type, or an output of an instance
 abbrev pub OperandFits : Standing → Operand → Ty → Type 0
 OperandFits at (Own x) t = IsVariable (variables at) x t
 OperandFits at (Output i x) t = (within : List Variable) × IsInstance (world_of at.project) (variables at) i within × HasType within x t (λ class. class ≡ tree.Output)
@@ -84,15 +87,19 @@ abbrev pub StoringFits : Storing → Ty → Type 0
 StoringFits Stored t = Unit {0}
 StoringFits _ t = t ≡ ty.Bool
 
+-- what is wired to EN is a truth value
 abbrev pub EnableFits : Standing → Enable → Type 0
 EnableFits at enable = (link : Link) → enable.en ≡ Some link → LinkFits at link × (link.ty ≡ ty.Bool)
 
+-- a connected input is one of the block's, and its link has that one's type
 abbrev pub InputFits : Standing → List Variable → InputPin → Type 0
 InputFits at within i = HasType within i.name i.link.ty (λ class. class ≡ tree.Input) × LinkFits at i.link
 
+-- an in-out is one of the block's, and stands for a variable of its type that can be written
 abbrev pub InOutFits : Standing → List Variable → InOutPin → Type 0
 InOutFits at within i = (t : Ty) × HasType within i.name t (λ class. class ≡ tree.InOut) × IsVariable (variables at) i.variable t × CanBeWritten (variables at) i.variable
 
+-- a listed output is one of the block's; only truth values are negated
 abbrev pub OutputFits : List Variable → OutputPin → Type 0
 OutputFits within o = HasType within o.name o.ty (λ class. class ≡ tree.Output) × (o.negated ≡ true → o.ty ≡ ty.Bool)
 
@@ -100,6 +107,7 @@ OutputFits within o = HasType within o.name o.ty (λ class. class ≡ tree.Outpu
 abbrev pub all_listed : List InOutPin → List Variable → Bool
 all_listed in_outs vs = list_all (λ (v : Variable). elim v.class [ tree.InOut ↦ list_any (λ (i : InOutPin). bytes_eq (folded i.name) (folded v.name)) in_outs | _ ↦ true ]) vs
 
+-- a call is one of an instance, whose inputs, in-outs and outputs suit its block
 pub record CallFits (at : Standing) (instance : List ℕ) (taken : List InputPin) (bound : List InOutPin) (given : List OutputPin) : Type 0 where
   pub within : List Variable
   pub called : IsInstance (world_of at.project) (variables at) instance within
@@ -110,6 +118,7 @@ pub record CallFits (at : Standing) (instance : List ℕ) (taken : List InputPin
   -- nothing is named twice
   pub formals : are_distinct (map (λ (i : InputPin). folded i.name) taken ++ map (λ (i : InOutPin). folded i.name) bound) ≡ true
 
+-- a function is one that there is, and its inputs suit its signature at the type of its group
 pub record FunctionFits (at : Standing) (f : Func) (t : Ty) (links : List Link) : Type 0 where
   pub function : is_function f ≡ true
   pub group : group_of f (map (λ (l : Link). l.ty) links) ≡ Some t
@@ -120,6 +129,7 @@ pub record FunctionFits (at : Standing) (f : Func) (t : Ty) (links : List Link) 
 abbrev pub TruthFits : Standing → Link → Type 0
 TruthFits at link = LinkFits at link × (link.ty ≡ ty.Bool)
 
+-- an element suits its POU, and the types of its pins suit one another
 abbrev pub KindFits : Standing → ElementKind → Type 0
 KindFits at Still = Unit {0}
 KindFits at (In t negated operand) = OperandFits at operand t × (negated ≡ true → t ≡ ty.Bool)
@@ -137,6 +147,7 @@ KindFits at (Call instance enable inputs in_outs outputs) = CallFits at instance
 abbrev pub fixed_by : DiagramElement → List (ℕ × Port)
 fixed_by e = map (λ (o : Port). (e.id, o)) (ports e.kind)
 
+-- no output of the element of this number is among these
 abbrev pub is_fresh : ℕ → List (ℕ × Port) → Bool
 is_fresh id done = list_all (λ (d : ℕ × Port). not (nat_eq d.0 id)) done
 
@@ -169,6 +180,7 @@ printed_type project name =
     if is_some (type_named name) || is_some (kind_named name) then map to_ascii_uppercase name
     else (elim (block_named name project) [ Some q ↦ q.name | None ↦ name ])
 
+-- what is promised of a variable of a diagram
 pub record VariableFits (project : Project) (v : Variable) : Type 0 where
   pub name : IsGoodName v.name
   pub class : v.class ≢ Temp
@@ -194,6 +206,7 @@ abbrev pub parts : ℕ → Project → Pou → ℕ
 parts zero project p = 0
 parts (suc n) project p = sum_by (λ (e : DiagramElement). suc (length e.fed)) p.elements + sum_by (variable_parts (parts n project) project) (variables_of p.lists)
 
+-- what is promised of a POU
 pub record PouFits (project : Project) (p : Pou) : Type 0 where
   pub name : IsGoodName p.name
   pub variables : Each (VariableFits project) (variables_of p.lists)
@@ -215,6 +228,7 @@ PouNests zero project p = (x : List ℕ) (v : Variable) → variable_named x (va
 PouNests (suc n) project p = (x : List ℕ) (v : Variable) → variable_named x (variables_of p.lists) ≡ Some v → type_named v.ty ≡ None → kind_named v.ty ≡ None
     → (q : Pou) × (block_named v.ty project ≡ Some q) × PouNests n project q
 
+-- what is promised of a project: no two POUs have one name, each fits, and none has more than 16 levels of blocks below it
 pub record ProjectFits (project : Project) : Type 0 where
   pub names : are_distinct (map (λ (p : Pou). folded p.name) project) ≡ true
   pub pous : Each (PouFits project) project

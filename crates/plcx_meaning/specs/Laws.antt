@@ -53,10 +53,11 @@ abbrev pub WhileUnfolds : TextSetting → TextCalls → Expression → Statement
 WhileUnfolds c calls e ss = (g : TextState) (f : Frame) → statement_runs (While e ss) c calls g f ≡ with_truth (value_of e c g.store f) g (λ b.
     if b then spend g.left g (λ left. then_do (statements_run ss c calls (record g { left = left }) f) (statement_runs (While e ss) c calls)) else Ended g f)
 
--- the standard blocks and those of a project, or of a unit, with so many levels of them below
+-- the standard blocks and those of a project, with so many levels of them below
 abbrev pub diagram_calls : ℕ → (time : ℕ) → Project → DiagramCalls
 diagram_calls n time project = with_standard time (blocks_do n time project)
 
+-- and those of a unit
 abbrev pub text_calls : ℕ → (time : ℕ) → List PouText → TextCalls
 text_calls n time unit = text.with_standard time (blocks_run n time unit)
 

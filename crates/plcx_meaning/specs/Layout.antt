@@ -26,12 +26,15 @@ pub record Variable : Type 0 where
 abbrev pub InitialIsTyped : Variable → Type 0
 InitialIsTyped v = (value : Value) → v.initial ≡ Some value → (type_named v.ty ≡ Some value.ty) × InRange value.ty value.n
 
+-- a declaration of a block of this class and mark
 abbrev pub variable : Class → Mark → Declaration → Variable
 variable class mark d = record { class = class; mark = mark; name = d.name; ty = d.ty; initial = d.initial }
 
+-- the declarations of a block, in order
 abbrev pub block_variables : Block → List Variable
 block_variables b = map (variable b.class b.mark) b.declarations
 
+-- and those of all blocks, one after another
 abbrev pub variables_of : List Block → List Variable
 variables_of blocks = flat_map block_variables blocks
 
@@ -49,9 +52,11 @@ pub data Meaning : Type 0 where
   Elementary : Ty → Meaning
   Composed : List Variable → Meaning
 
+-- the variables that an instance of the name of a type has: those of a standard block, else those of the world
 abbrev pub composed : World → List ℕ → List Variable
 composed world name = elim (kind_named name) [ Some k ↦ variables_of (pin_blocks k) | None ↦ variables_of (world (folded name)) ]
 
+-- the names of elementary types come first, then those of standard blocks
 abbrev pub meaning : World → List ℕ → Meaning
 meaning world name = elim (type_named name) [ Some t ↦ Elementary t | None ↦ Composed (composed world name) ]
 
@@ -60,6 +65,7 @@ abbrev pub parts : Meaning → List Variable
 parts (Elementary t) = []
 parts (Composed vs) = vs
 
+-- the variables within the variable that was found, none where none was
 abbrev pub parts_of : World → Option Variable → List Variable
 parts_of world None = []
 parts_of world (Some v) = parts (meaning world v.ty)
@@ -79,10 +85,12 @@ abbrev pub variable_at : Scope → Path → Option Variable
 variable_at c [] = None
 variable_at c (x ∷ p) = variable_named x (variables_at c p)
 
+-- a value that is not given is 0
 abbrev pub initial_value : Option Value → ℤ
 initial_value None = pos 0
 initial_value (Some v) = v.n
 
+-- the initial value of the variable that was found, 0 where none was
 abbrev pub initial_of : Option Variable → ℤ
 initial_of None = pos 0
 initial_of (Some v) = initial_value v.initial
@@ -91,11 +99,13 @@ initial_of (Some v) = initial_value v.initial
 abbrev pub initial_at : Scope → Path → ℤ
 initial_at c p = initial_of (variable_at c p)
 
+-- the mark of a block of retained variables
 abbrev pub is_retain : Mark → Bool
 is_retain Plain = false
 is_retain Constant = false
 is_retain Retain = true
 
+-- the variable that was found stands in such a block
 abbrev pub is_marked : Option Variable → Bool
 is_marked None = false
 is_marked (Some v) = is_retain v.mark
@@ -123,6 +133,7 @@ pub record Leaf : Type 0 where
   pub settable : Bool
   pub shown : Bool
 
+-- the mark of a block of constants
 abbrev pub is_constant : Mark → Bool
 is_constant Plain = false
 is_constant Constant = true
@@ -134,6 +145,7 @@ is_outside [] = false
 is_outside (x ∷ []) = not (is_own x)
 is_outside (x ∷ y ∷ p) = false
 
+-- the leaf of this type whose path is spelled so, declared in a block of this mark
 abbrev pub leaf_of : Scope → Spelling → Ty → Mark → Leaf
 leaf_of c names t mark = record {
   path = path_of names;
@@ -207,6 +219,7 @@ begun c kept p = if is_declared p && is_retained c p then kept p else initial_at
 pub data Restart : Type 0 where
   Warm Cold : Restart
 
+-- the values after a restart
 abbrev pub restarted : Scope → Restart → (Path → ℤ) → Path → ℤ
 restarted c Warm s p = if is_retained c p then s p else initial_at c p
 restarted c Cold s p = initial_at c p

@@ -45,6 +45,7 @@ pub record CallIsReady (c : Scope) (i : List ℕ) (args : List Argument) : Type 
   pub values : Each (λ (a : Argument). ValueIsReady c a.value (formal c.world (part_in c i a.formal))) args
   pub bound : all_bound args (parts_of c.world (variable_in c i)) ≡ true
 
+-- the labels of the arms of a CASE, in order
 abbrev pub labels : Arms → List ℕ
 labels no_arm = []
 labels (arm n ss rest) = n ∷ labels rest
@@ -73,6 +74,7 @@ abbrev mutual
 abbrev pub unit_knows : List PouText → List ℕ → Bool
 unit_knows unit type = is_some (type_named type) || (is_some (kind_named type) || is_some (block_named type unit))
 
+-- a variable has a name that is free and a type that is known, and stands where its type may
 pub record VariableIsReady (unit : List PouText) (kind : PouKind) (v : Variable) : Type 0 where
   pub free : is_listed v.name ≡ false
   pub known : unit_knows unit v.ty ≡ true
@@ -100,6 +102,7 @@ abbrev pub size : ℕ → World → List Variable → ℕ
 size zero world vs = 0
 size (suc n) world vs = sum_by (variable_size (size n world) world) vs
 
+-- a POU of a unit, with its variables, its body, its chains of instances, and its size
 pub record PouIsReady (unit : List PouText) (p : PouText) : Type 0 where
   pub free : is_listed p.name ≡ false
   pub distinct : are_distinct (map (λ (v : Variable). folded v.name) (variables_of p.blocks)) ≡ true
@@ -108,6 +111,7 @@ pub record PouIsReady (unit : List PouText) (p : PouText) : Type 0 where
   pub nests : TextNests 16 unit p
   pub small : size 18 (world_of unit) (variables_of p.blocks) ≤ 8388608
 
+-- no two POUs of a unit have one name, and each is ready
 pub record IsReady (unit : List PouText) : Type 0 where
   pub distinct : are_distinct (map (λ (p : PouText). folded p.name) unit) ≡ true
   pub pous : Each (PouIsReady unit) unit

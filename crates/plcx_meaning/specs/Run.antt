@@ -10,6 +10,7 @@ pub record Input : Type 0 where
   pub path : Path
   pub value : ℤ
 
+-- a scan at a time, with its inputs, or a restart
 pub data Event : Type 0 where
   Scan : (time : ℕ) → List Input → Event
   Again : Restart → Event
@@ -38,6 +39,7 @@ pub record Side (G : Type 0) : Type 0 where
   pub halted : Bool
   pub last : ℕ
 
+-- how a scan came out, as it is told
 abbrev pub told_of : {G : Type 0} → Outcome G (Unit {0}) → Told
 told_of (Ended g u) = TheEnd
 told_of (Stopped s g) = TheStop s
@@ -54,6 +56,7 @@ abbrev pub tells : {G : Type 0} → Machine G → ℕ → Event → Side G → T
 tells m n (Scan time inputs) s = if s.halted then Halted else told_of (m.scan n time inputs s.state)
 tells m n (Again r) s = Restarted
 
+-- the side after an event, with a budget of turns
 abbrev pub after : {G : Type 0} → Machine G → ℕ → Event → Side G → Side G
 after m n (Scan time inputs) s = if s.halted then record s { last = time } else side_after time s.state (m.scan n time inputs s.state)
 after m n (Again r) s = record { state = m.restart r s.state; halted = false; last = s.last }
@@ -63,6 +66,7 @@ abbrev pub last_after : ℕ → Event → ℕ
 last_after last (Scan time inputs) = time
 last_after last (Again r) = last
 
+-- a side before its first event, begun from a retained state
 abbrev pub begin_side : {G : Type 0} → Machine G → (Path → ℤ) → Side G
 begin_side m kept = record { state = m.begin kept; halted = false; last = 0 }
 

@@ -13,34 +13,43 @@ pub record Line : Type 0 where
   pub told : Told
   pub values : List ℤ
 
+-- a line by its two parts
 abbrev pub line : Told → List ℤ → Line
 line told values = record { told = told; values = values }
 
+-- the lines of all events, and what is retained
 pub record Trace : Type 0 where
   pub lines : List Line
   -- the values of the retained leaves at the end
   pub retained : List ℤ
 
+-- a trace by its two parts
 abbrev pub trace_of : List Line → List ℤ → Trace
 trace_of lines retained = record { lines = lines; retained = retained }
 
+-- the values of some leaves
 abbrev pub values_at : {G : Type 0} → Machine G → Side G → List Leaf → List ℤ
 values_at m s leaves = map (λ (leaf : Leaf). m.value s.state leaf.path) leaves
 
+-- those of the shown leaves
 abbrev pub shown_values : {G : Type 0} → Machine G → Side G → List ℤ
 shown_values m s = values_at m s (filter (λ (leaf : Leaf). leaf.shown) m.layout)
 
+-- and those of the retained leaves that are declared
 abbrev pub retained_values : {G : Type 0} → Machine G → Side G → List ℤ
 retained_values m s = values_at m s (filter (λ (leaf : Leaf). leaf.retained) (declared_leaves m.layout))
 
+-- a line after each event, from a side on
 abbrev pub lines_from : {G : Type 0} → Machine G → ℕ → List Event → Side G → List Line
 lines_from m turns [] s = []
 lines_from m turns (e ∷ es) s = line (tells m turns e s) (shown_values m (after m turns e s)) ∷ lines_from m turns es (after m turns e s)
 
+-- the side after all events
 abbrev pub side_at_end : {G : Type 0} → Machine G → ℕ → List Event → Side G → Side G
 side_at_end m turns [] s = s
 side_at_end m turns (e ∷ es) s = side_at_end m turns es (after m turns e s)
 
+-- the trace of a side over events
 abbrev pub trace_from : {G : Type 0} → Machine G → ℕ → List Event → Side G → Trace
 trace_from m turns es s = trace_of (lines_from m turns es s) (retained_values m (side_at_end m turns es s))
 
@@ -56,5 +65,6 @@ trace m turns es = trace_with m (initial_in m.layout) turns es
 abbrev pub diagram_trace : Project → Pou → ℕ → List Event → Trace
 diagram_trace project p turns es = trace (diagram_machine project p) turns es
 
+-- the trace of its text
 abbrev pub text_trace : Project → Pou → ℕ → List Event → Trace
 text_trace project p turns es = trace (text_machine (unit_of project) (pou_text p)) turns es

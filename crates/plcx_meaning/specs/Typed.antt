@@ -20,6 +20,7 @@ variable_in c x = variable_named (folded x) c.own
 abbrev pub part_in : Scope → (instance part : List ℕ) → Option Variable
 part_in c i x = variable_named (folded x) (parts_of c.world (variable_in c i))
 
+-- the type of what can be read under a name
 abbrev pub referent_type : Referent → Option Ty
 referent_type (Temporary t) = Some t
 referent_type (Kept t) = Some t
@@ -33,6 +34,7 @@ read_type (Elementary t) Output = Some t
 read_type (Elementary t) _ = None
 read_type (Composed vs) class = None
 
+-- the type of what is read of an instance, where that is an output
 abbrev pub member_type : World → Option Variable → Option Ty
 member_type world None = None
 member_type world (Some v) = read_type (meaning world v.ty) v.class
@@ -60,9 +62,11 @@ is_operator _ = false
 abbrev pub type_at : Func → List Ty → Ty → Option Ty
 type_at f types t = if can_apply f t types then Some (out_type f t) else None
 
+-- the type of what a function gives for inputs of these types
 abbrev pub result_type : Func → List Ty → Option Ty
 result_type f types = option_and_then (type_at f types) (group_of f types)
 
+-- and one that is called by its name, which one of an operator is not
 abbrev pub call_type : Option Func → List Ty → Option Ty
 call_type None types = None
 call_type (Some f) types = if is_operator f then None else result_type f types
