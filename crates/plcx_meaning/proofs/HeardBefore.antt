@@ -5,7 +5,7 @@ use Rattle.std.proofs.lemmas.List.{append_assoc}
 use Rattle.std.specs.declared.result.Result.{Result}
 use Rattle.std.specs.declared.result.Result.TheVariants.{Ok, Err}
 use Rattle.plcx_types.specs.declared.fault.Fault.{Fault}
-use Rattle.plcx_types.specs.Name.{folded}
+use Rattle.plcx_types.specs.Name.{in_lower_case}
 use Rattle.plcx_types.specs.Value.{Value}
 use Rattle.plcx_std.specs.declared.kind.StdKind.{StdKind}
 use Rattle.plcx_std.specs.Kind.{kind_named}
@@ -71,7 +71,7 @@ module _ (hs : List Heard) where
 
   outputs_same : (given : List OutputPin) (id : ℕ) (inner : Path) (d : DiagramState) (ws : Wires) → take_outputs given id inner (earlier hs d) ws ≡ take_outputs given id inner d ws
   outputs_same [] id inner d ws = refl
-  outputs_same (o ∷ given) id inner d ws = outputs_same given id inner d (fix ws id o.name (not_if o.negated (d.store (folded o.name ∷ inner))))
+  outputs_same (o ∷ given) id inner d ws = outputs_same given id inner d (fix ws id o.name (not_if o.negated (d.store (in_lower_case o.name ∷ inner))))
 
   -- and what is stored leaves it
   if_stored : (b : Bool) (d e : DiagramState) → (if b then earlier hs d else earlier hs e) ≡ earlier hs (if b then d else e)
@@ -97,7 +97,7 @@ module _ (hs : List Heard) where
 
   inputs_earlier : (inputs : List InputPin) (inner : Path) (values : Link → ℤ) (d : DiagramState) → store_inputs inputs inner values (earlier hs d) ≡ earlier hs (store_inputs inputs inner values d)
   inputs_earlier [] inner values d = refl
-  inputs_earlier (i ∷ is) inner values d = inputs_earlier is inner values (set_leaf d (folded i.name ∷ inner) (values i.link))
+  inputs_earlier (i ∷ is) inner values d = inputs_earlier is inner values (set_leaf d (in_lower_case i.name ∷ inner) (values i.link))
 
   feed_earlier : (id : ℕ) (fed : List Port) (path : Path) (ws : Wires) (d : DiagramState) → feed id fed path ws (earlier hs d) ≡ earlier hs (feed id fed path ws d)
   feed_earlier id [] path ws d = refl
@@ -109,9 +109,9 @@ module _ (hs : List Heard) where
   module _ (c : DiagramSetting) (adds : CallAdds c.called) where
     call_earlier : (instance type : List ℕ) (v : ℤ) (inputs : List InputPin) (in_outs : List InOutPin) (values : Link → ℤ) (d : DiagramState) → Adds (call_does instance type v inputs in_outs c values) d
     call_earlier instance type v inputs in_outs values d =
-        let inner : Site = record { path = folded instance ∷ c.site.path; bound = bind in_outs (leaf_named c.variables c.site) } in
+        let inner : Site = record { path = in_lower_case instance ∷ c.site.path; bound = bind in_outs (leaf_named c.variables c.site) } in
         if_earlier (is_true v) _ _ _ _
-        (ap (c.called type inner) (inputs_earlier inputs (folded instance ∷ c.site.path) values d) ∙ adds type inner (store_inputs inputs (folded instance ∷ c.site.path) values d))
+        (ap (c.called type inner) (inputs_earlier inputs (in_lower_case instance ∷ c.site.path) values d) ∙ adds type inner (store_inputs inputs (in_lower_case instance ∷ c.site.path) values d))
         refl
 
     -- an element, whose links have equal values
@@ -139,17 +139,17 @@ module _ (hs : List Heard) where
         ∙ result_earlier (function_result f t inputs (enable_value (link_value c.site.path d ws) enable) (link_value c.site.path d ws)) d _
     kind_by (Call instance enable inputs in_outs outputs) id d ws e =
         let values = link_value c.site.path d ws in
-        let inner : Path = folded instance ∷ c.site.path in
+        let inner : Path = in_lower_case instance ∷ c.site.path in
         let v = enable_value values enable in
-        ap (λ (vs : Link → ℤ). found (variable_named (folded instance) c.variables) (λ x.
+        ap (λ (vs : Link → ℤ). found (variable_named (in_lower_case instance) c.variables) (λ x.
         then_do (call_does instance x.ty (enable_value vs enable) inputs in_outs c vs (earlier hs d)) (λ d' u.
         Ended d' (turn (eno_negated enable) id (codes "ENO") (take_outputs outputs id inner d' (fix_eno enable id (enable_value vs enable) ws)))))) e
-        ∙ found_earlier (variable_named (folded instance) c.variables) (λ x. then_do (call_does instance x.ty v inputs in_outs c values d) (gives v)) (λ x. then_do (call_does instance x.ty v inputs in_outs c values (earlier hs d)) (gives v)) (λ x.
+        ∙ found_earlier (variable_named (in_lower_case instance) c.variables) (λ x. then_do (call_does instance x.ty v inputs in_outs c values d) (gives v)) (λ x. then_do (call_does instance x.ty v inputs in_outs c values (earlier hs d)) (gives v)) (λ x.
         then_earlier _ _ (gives v) (call_earlier instance x.ty v inputs in_outs values d) (λ d' u.
         ap (λ ws'. Ended (earlier hs d') (turn (eno_negated enable) id (codes "ENO") ws')) (outputs_same outputs id inner d' (fix_eno enable id v ws))))
       where
         gives : ℤ → DiagramState → Unit {0} → Outcome DiagramState Wires
-        gives v d' u = Ended d' (turn (eno_negated enable) id (codes "ENO") (take_outputs outputs id (folded instance ∷ c.site.path) d' (fix_eno enable id v ws)))
+        gives v d' u = Ended d' (turn (eno_negated enable) id (codes "ENO") (take_outputs outputs id (in_lower_case instance ∷ c.site.path) d' (fix_eno enable id v ws)))
 
     kind_earlier : (k : ElementKind) (id : ℕ) (d : DiagramState) (ws : Wires) → Adds (λ e. kind_does k id c e ws) d
     kind_earlier k id d ws = kind_by k id d ws (links_same c.site.path d ws)

@@ -7,7 +7,7 @@ use Rattle.std.proofs.lemmas.Bool.{and_parts, and_from, or_parts, or_from, not-t
 use Rattle.std.proofs.lemmas.List.{length-append}
 use Rattle.plcx_types.specs.declared.ty.Ty.{Ty}
 use Rattle.plcx_types.specs.declared.ty.Ty.TheVariants as ty
-use Rattle.plcx_types.specs.Name.{folded}
+use Rattle.plcx_types.specs.Name.{in_lower_case}
 use Rattle.plcx_types.specs.Range.{InRange}
 use Rattle.plcx_types.specs.TypeName.{type_named}
 use Rattle.plcx_types.specs.Value.{Value}
@@ -21,7 +21,7 @@ use Rattle.plcx_meaning.proofs.ReadyUnits.{each_both, named_each}
 
 -- the variables of one instance have names of their own and initial values of their types
 abbrev pub AreNamed : List Variable → Type 0
-AreNamed vs = (are_distinct (map (λ (v : Variable). folded v.name) vs) ≡ true) × Each InitialIsTyped vs
+AreNamed vs = (are_distinct (map (λ (v : Variable). in_lower_case v.name) vs) ≡ true) × Each InitialIsTyped vs
 
 pub record IsProper (c : Scope) : Type 0 where
   pub own : AreNamed c.own
@@ -112,42 +112,42 @@ apart_joined (leaf ∷ ls) ms h k across =
 
 module _ (f : Variable → List Leaf) (p : Path) where
   abbrev StandsBelow : Variable → Type 0
-  StandsBelow v = Each (λ (leaf : Leaf). Below (folded v.name ∷ p) leaf.path) (f v)
+  StandsBelow v = Each (λ (leaf : Leaf). Below (in_lower_case v.name ∷ p) leaf.path) (f v)
 
-  across : (v : Variable) → StandsBelow v → (vs : List Variable) → IsNew (folded v.name) (map (λ (w : Variable). folded w.name) vs) → Each StandsBelow vs → Each (λ leaf. Each (Differs leaf) (flat_map f vs)) (f v)
+  across : (v : Variable) → StandsBelow v → (vs : List Variable) → IsNew (in_lower_case v.name) (map (λ (w : Variable). in_lower_case w.name) vs) → Each StandsBelow vs → Each (λ leaf. Each (Differs leaf) (flat_map f vs)) (f v)
   across v here vs new below =
-      each_weaker (λ (leaf : Leaf). Below (folded v.name ∷ p) leaf.path) _ (f v) (λ leaf stands.
-      each_flat_map (Differs leaf) f vs (each_both (λ (w : Variable). bytes_eq (folded v.name) (folded w.name) ≡ false) StandsBelow _ vs
-      (each_from _ vs (λ w there. none_passes (bytes_eq (folded v.name)) (map (λ (u : Variable). folded u.name) vs) (folded w.name) new (contains_map (λ (u : Variable). folded u.name) vs w there)))
-      below (λ w other stand. each_weaker (λ (l : Leaf). Below (folded w.name ∷ p) l.path) _ (f w) (λ l lies. apart_below (folded v.name) (folded w.name) p leaf.path l.path stands lies other) stand))) here
+      each_weaker (λ (leaf : Leaf). Below (in_lower_case v.name ∷ p) leaf.path) _ (f v) (λ leaf stands.
+      each_flat_map (Differs leaf) f vs (each_both (λ (w : Variable). bytes_eq (in_lower_case v.name) (in_lower_case w.name) ≡ false) StandsBelow _ vs
+      (each_from _ vs (λ w there. none_passes (bytes_eq (in_lower_case v.name)) (map (λ (u : Variable). in_lower_case u.name) vs) (in_lower_case w.name) new (contains_map (λ (u : Variable). in_lower_case u.name) vs w there)))
+      below (λ w other stand. each_weaker (λ (l : Leaf). Below (in_lower_case w.name ∷ p) l.path) _ (f w) (λ l lies. apart_below (in_lower_case v.name) (in_lower_case w.name) p leaf.path l.path stands lies other) stand))) here
 
-  all_differ_of : (vs : List Variable) → are_distinct (map (λ (v : Variable). folded v.name) vs) ≡ true → Each (λ v. all_apart (paths (f v)) ≡ true) vs → Each StandsBelow vs → all_apart (paths (flat_map f vs)) ≡ true
+  all_differ_of : (vs : List Variable) → are_distinct (map (λ (v : Variable). in_lower_case v.name) vs) ≡ true → Each (λ v. all_apart (paths (f v)) ≡ true) vs → Each StandsBelow vs → all_apart (paths (flat_map f vs)) ≡ true
   all_differ_of [] h each below = refl
   all_differ_of (v ∷ vs) h each below =
-      let parts = distinct_parts (folded v.name) (map (λ (w : Variable). folded w.name) vs) h in
+      let parts = distinct_parts (in_lower_case v.name) (map (λ (w : Variable). in_lower_case w.name) vs) h in
       apart_joined (f v) (flat_map f vs) each.0 (all_differ_of vs parts.1 each.1 below.1) (across v below.0 vs parts.0 below.1)
 
 module _ (c : Scope) where
   below_variable : (n : ℕ) → ((names : Spelling) (vs : List Variable) → Each (λ (leaf : Leaf). Below (path_of names) leaf.path) (leaves n c names vs))
-      → (names : Spelling) (v : Variable) → Each (λ (leaf : Leaf). Below (folded v.name ∷ path_of names) leaf.path) (variable_leaves (leaves n c) c names v)
+      → (names : Spelling) (v : Variable) → Each (λ (leaf : Leaf). Below (in_lower_case v.name ∷ path_of names) leaf.path) (variable_leaves (leaves n c) c names v)
   below_variable n inner names v = by_class (is_kept v.class)
     where
-      by_meaning : (m : Meaning) → Each (λ (leaf : Leaf). Below (folded v.name ∷ path_of names) leaf.path) (elim m [ Elementary t ↦ leaf_of c (v.name ∷ names) t v.mark ∷ [] | Composed vs ↦ leaves n c (v.name ∷ names) vs ])
+      by_meaning : (m : Meaning) → Each (λ (leaf : Leaf). Below (in_lower_case v.name ∷ path_of names) leaf.path) (elim m [ Elementary t ↦ leaf_of c (v.name ∷ names) t v.mark ∷ [] | Composed vs ↦ leaves n c (v.name ∷ names) vs ])
       by_meaning (Elementary t) = (([], refl), tt)
       by_meaning (Composed vs) = inner (v.name ∷ names) vs
 
-      by_class : (b : Bool) → Each (λ (leaf : Leaf). Below (folded v.name ∷ path_of names) leaf.path) (if b then (elim (meaning c.world v.ty) [ Elementary t ↦ leaf_of c (v.name ∷ names) t v.mark ∷ [] | Composed vs ↦ leaves n c (v.name ∷ names) vs ]) else [])
+      by_class : (b : Bool) → Each (λ (leaf : Leaf). Below (in_lower_case v.name ∷ path_of names) leaf.path) (if b then (elim (meaning c.world v.ty) [ Elementary t ↦ leaf_of c (v.name ∷ names) t v.mark ∷ [] | Composed vs ↦ leaves n c (v.name ∷ names) vs ]) else [])
       by_class true = by_meaning (meaning c.world v.ty)
       by_class false = tt
 
   below_leaves : (n : ℕ) (names : Spelling) (vs : List Variable) → Each (λ (leaf : Leaf). Below (path_of names) leaf.path) (leaves n c names vs)
   below_leaves zero names vs = tt
   below_leaves (suc n) names vs = each_flat_map _ (variable_leaves (leaves n c) c names) vs (each_from _ vs (λ v there.
-      each_weaker (λ (leaf : Leaf). Below (folded v.name ∷ path_of names) leaf.path) _ (variable_leaves (leaves n c) c names v) (λ leaf below. shorter (folded v.name) (path_of names) leaf.path below) (below_variable n (below_leaves n) names v)))
+      each_weaker (λ (leaf : Leaf). Below (in_lower_case v.name ∷ path_of names) leaf.path) _ (variable_leaves (leaves n c) c names v) (λ leaf below. shorter (in_lower_case v.name) (path_of names) leaf.path below) (below_variable n (below_leaves n) names v)))
 
 module _ (c : Scope) (proper : IsProper c) where
   variable_sits : (n : ℕ) → ((names : Spelling) (vs : List Variable) → variables_at c (path_of names) ≡ vs → AreNamed vs → Each (Sits c) (leaves n c names vs))
-      → (names : Spelling) (v : Variable) → variable_at c (folded v.name ∷ path_of names) ≡ Some v → InitialIsTyped v → Each (Sits c) (variable_leaves (leaves n c) c names v)
+      → (names : Spelling) (v : Variable) → variable_at c (in_lower_case v.name ∷ path_of names) ≡ Some v → InitialIsTyped v → Each (Sits c) (variable_leaves (leaves n c) c names v)
   variable_sits n inner names v found typed = by_class (is_kept v.class)
     where
       by_type : (o : Option Ty) → type_named v.ty ≡ o
@@ -163,8 +163,8 @@ module _ (c : Scope) (proper : IsProper c) where
   sits : (n : ℕ) (names : Spelling) (vs : List Variable) → variables_at c (path_of names) ≡ vs → AreNamed vs → Each (Sits c) (leaves n c names vs)
   sits zero names vs at named = tt
   sits (suc n) names vs at named = each_flat_map (Sits c) (variable_leaves (leaves n c) c names) vs
-      (each_both (λ (v : Variable). variable_named (folded v.name) vs ≡ Some v) InitialIsTyped _ vs (named_each vs named.0) named.1 (λ v found typed.
-      variable_sits n (sits n) names v (ap (variable_named (folded v.name)) at ∙ found) typed))
+      (each_both (λ (v : Variable). variable_named (in_lower_case v.name) vs ≡ Some v) InitialIsTyped _ vs (named_each vs named.0) named.1 (λ v found typed.
+      variable_sits n (sits n) names v (ap (variable_named (in_lower_case v.name)) at ∙ found) typed))
 
   variable_apart : (n : ℕ) → ((names : Spelling) (vs : List Variable) → AreNamed vs → all_apart (paths (leaves n c names vs)) ≡ true) → (names : Spelling) (v : Variable) → all_apart (paths (variable_leaves (leaves n c) c names v)) ≡ true
   variable_apart n inner names v = by_class (is_kept v.class)

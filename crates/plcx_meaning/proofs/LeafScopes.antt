@@ -1,6 +1,6 @@
 -- The scopes of a project that fits, and of a unit that is ready.
 use Rattle.std.proofs.Common.{◌≡◌, ℕ, true, List, [], Option, Some, None, map, filter, refl}
-use Rattle.plcx_types.specs.Name.{folded}
+use Rattle.plcx_types.specs.Name.{in_lower_case}
 use Rattle.plcx_std.specs.declared.kind.StdKind.{StdKind}
 use Rattle.plcx_std.specs.declared.kind.StdKind.TheVariants as kind
 use Rattle.plcx_std.specs.declared.pin.Role.{Role}
@@ -22,7 +22,7 @@ use Rattle.plcx_meaning.proofs.StaticsWorlds.{block_fits}
 use Rattle.plcx_meaning.proofs.StuckBodies.{block_has}
 use Rattle.plcx_meaning.proofs.LeafPaths.{AreNamed, IsProper}
 
-pins_distinct : (k : StdKind) → are_distinct (map (λ (v : Variable). folded v.name) (variables_of (pin_blocks k))) ≡ true
+pins_distinct : (k : StdKind) → are_distinct (map (λ (v : Variable). in_lower_case v.name) (variables_of (pin_blocks k))) ≡ true
 pins_distinct kind.Ton = refl
 pins_distinct kind.Tof = refl
 pins_distinct kind.Tp = refl
@@ -47,12 +47,12 @@ pou_named project p fits = (fits.distinct, each_weaker (VariableFits project) In
 pub diagram_scope : (project : Project) → ProjectFits project → (p : Pou) → PouFits project p → IsProper (evaluate.scope_of project p)
 diagram_scope project fits p one = record { own = pou_named project p one; inner = λ name. by_kind name (kind_named name) }
   where
-    of_block : (name : List ℕ) (o : Option Pou) → diagram.block_named (folded name) project ≡ o → AreNamed (variables_of (elim o [ Some q ↦ q.lists | None ↦ [] ]))
+    of_block : (name : List ℕ) (o : Option Pou) → diagram.block_named (in_lower_case name) project ≡ o → AreNamed (variables_of (elim o [ Some q ↦ q.lists | None ↦ [] ]))
     of_block name None e = (refl, tt)
-    of_block name (Some q) e = pou_named project q (block_fits project (folded name) project q fits.pous e)
+    of_block name (Some q) e = pou_named project q (block_fits project (in_lower_case name) project q fits.pous e)
 
-    by_kind : (name : List ℕ) (o : Option StdKind) → AreNamed (elim o [ Some k ↦ variables_of (pin_blocks k) | None ↦ variables_of (evaluate.world_of project (folded name)) ])
-    by_kind name None = of_block name (diagram.block_named (folded name) project) refl
+    by_kind : (name : List ℕ) (o : Option StdKind) → AreNamed (elim o [ Some k ↦ variables_of (pin_blocks k) | None ↦ variables_of (evaluate.world_of project (in_lower_case name)) ])
+    by_kind name None = of_block name (diagram.block_named (in_lower_case name) project) refl
     by_kind name (Some k) = (pins_distinct k, pins_typed k)
 
 text_named : (unit : List PouText) (p : PouText) → PouIsReady unit p → AreNamed (variables_of p.blocks)
@@ -61,10 +61,10 @@ text_named unit p ready = (ready.distinct, each_weaker (VariableIsReady unit p.k
 pub text_scope : (unit : List PouText) → IsReady unit → (p : PouText) → PouIsReady unit p → IsProper (text.scope_of unit p)
 text_scope unit ready p one = record { own = text_named unit p one; inner = λ name. by_kind name (kind_named name) }
   where
-    of_block : (name : List ℕ) (o : Option PouText) → text.block_named (folded name) unit ≡ o → AreNamed (variables_of (elim o [ Some q ↦ q.blocks | None ↦ [] ]))
+    of_block : (name : List ℕ) (o : Option PouText) → text.block_named (in_lower_case name) unit ≡ o → AreNamed (variables_of (elim o [ Some q ↦ q.blocks | None ↦ [] ]))
     of_block name None e = (refl, tt)
-    of_block name (Some q) e = text_named unit q (block_has (PouIsReady unit) (folded name) unit q ready.pous e)
+    of_block name (Some q) e = text_named unit q (block_has (PouIsReady unit) (in_lower_case name) unit q ready.pous e)
 
-    by_kind : (name : List ℕ) (o : Option StdKind) → AreNamed (elim o [ Some k ↦ variables_of (pin_blocks k) | None ↦ variables_of (text.world_of unit (folded name)) ])
-    by_kind name None = of_block name (text.block_named (folded name) unit) refl
+    by_kind : (name : List ℕ) (o : Option StdKind) → AreNamed (elim o [ Some k ↦ variables_of (pin_blocks k) | None ↦ variables_of (text.world_of unit (in_lower_case name)) ])
+    by_kind name None = of_block name (text.block_named (in_lower_case name) unit) refl
     by_kind name (Some k) = (pins_distinct k, pins_typed k)

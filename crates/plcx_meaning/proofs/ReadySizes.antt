@@ -9,7 +9,7 @@ use Rattle.std.proofs.lemmas.List.{length-append}
 use Rattle.std.proofs.lemmas.List.Sums.{sum_by-append, sum_by-cons}
 use Rattle.plcx_types.specs.declared.ty.Ty.{Ty}
 use Rattle.plcx_types.specs.declared.ty.Ty.TheVariants as ty
-use Rattle.plcx_types.specs.Name.{folded}
+use Rattle.plcx_types.specs.Name.{in_lower_case}
 use Rattle.plcx_types.specs.TypeName.{type_name, type_named}
 use Rattle.plcx_std.specs.declared.kind.StdKind.{StdKind}
 use Rattle.plcx_std.specs.declared.kind.StdKind.TheVariants as kind
@@ -96,10 +96,10 @@ pins_plain kind.RTrig = refl
 pins_plain kind.FTrig = refl
 
 -- a block is found under its name without case
-block_folded : (name : List ℕ) (project : Project) → diagram.block_named (folded name) project ≡ diagram.block_named name project
+block_folded : (name : List ℕ) (project : Project) → diagram.block_named (in_lower_case name) project ≡ diagram.block_named name project
 block_folded name [] = refl
 block_folded name (p ∷ ps) =
-    ap₂ (λ key (o : Option Pou). if not (is_program p.kind) && bytes_eq (folded p.name) key then Some p else o) (folded_twice name) (block_folded name ps)
+    ap₂ (λ key (o : Option Pou). if not (is_program p.kind) && bytes_eq (in_lower_case p.name) key then Some p else o) (folded_twice name) (block_folded name ps)
 
 some_is : {A : Type 0} (o : Option A) → is_some o ≡ true → (x : A) × (o ≡ Some x)
 some_is None h = absurd (cc)
@@ -146,13 +146,13 @@ module _ (project : Project) (own : List Variable) where
       of_block (Some q) h = let one = h q in omega arith
       of_block None h = let none = plain_sizes n path [] refl in omega arith
 
-      by_kind : (o : Option StdKind) → suc (size n text_world (elim o [ Some k ↦ variables_of (pin_blocks k) | None ↦ variables_of (text_world (folded name)) ]))
-          ≤ length (leaves n c path (elim o [ Some k ↦ variables_of (pin_blocks k) | None ↦ variables_of (c.world (folded name)) ])) + (if is_some o then 1 else (elim (diagram.block_named name project) [ Some q ↦ suc (parts n project q) | None ↦ 1 ]))
+      by_kind : (o : Option StdKind) → suc (size n text_world (elim o [ Some k ↦ variables_of (pin_blocks k) | None ↦ variables_of (text_world (in_lower_case name)) ]))
+          ≤ length (leaves n c path (elim o [ Some k ↦ variables_of (pin_blocks k) | None ↦ variables_of (c.world (in_lower_case name)) ])) + (if is_some o then 1 else (elim (diagram.block_named name project) [ Some q ↦ suc (parts n project q) | None ↦ 1 ]))
       by_kind (Some k) = let same = plain_sizes n path (variables_of (pin_blocks k)) (pins_plain k) in omega arith
       by_kind None =
-          subst (λ (o : Option Pou). suc (size n text_world (variables_of (text_world (folded name)))) ≤ length (leaves n c path (variables_of (c.world (folded name)))) + (elim o [ Some q ↦ suc (parts n project q) | None ↦ 1 ])) (block_folded name project)
-          (subst (λ (bs : List Block). suc (size n text_world (variables_of bs)) ≤ length (leaves n c path (variables_of (c.world (folded name)))) + (elim (diagram.block_named (folded name) project) [ Some q ↦ suc (parts n project q) | None ↦ 1 ]))
-          (sym (ap (λ (o : Option PouText). elim o [ Some p ↦ p.blocks | None ↦ [] ]) (block_text (folded name) project))) (of_block (diagram.block_named (folded name) project) each))
+          subst (λ (o : Option Pou). suc (size n text_world (variables_of (text_world (in_lower_case name)))) ≤ length (leaves n c path (variables_of (c.world (in_lower_case name)))) + (elim o [ Some q ↦ suc (parts n project q) | None ↦ 1 ])) (block_folded name project)
+          (subst (λ (bs : List Block). suc (size n text_world (variables_of bs)) ≤ length (leaves n c path (variables_of (c.world (in_lower_case name)))) + (elim (diagram.block_named (in_lower_case name) project) [ Some q ↦ suc (parts n project q) | None ↦ 1 ]))
+          (sym (ap (λ (o : Option PouText). elim o [ Some p ↦ p.blocks | None ↦ [] ]) (block_text (in_lower_case name) project))) (of_block (diagram.block_named (in_lower_case name) project) each))
 
   -- each variable, and all of them
   variable_bound : (n : ℕ) (path : Spelling) (v : Variable) → ((at : Spelling) (q : Pou) → size n text_world (variables_of (pou_text q).blocks) ≤ length (leaves n c at (variables_of q.lists)) + parts n project q)

@@ -4,7 +4,7 @@ use Rattle.std.specs.List.{list_any}
 use Rattle.std.specs.Str.{bytes_eq}
 use Rattle.plcx_types.specs.declared.ty.Ty.{Ty}
 use Rattle.plcx_types.specs.declared.ty.Ty.TheVariants as ty
-use Rattle.plcx_types.specs.Name.{folded}
+use Rattle.plcx_types.specs.Name.{in_lower_case}
 use Rattle.plcx_funcs.specs.declared.func.Func.{Func}
 use Rattle.plcx_meaning.specs.Functions.{out_type}
 use Rattle.plcx_meaning.specs.Tree.{PouKind, Block}
@@ -195,7 +195,7 @@ has_jump networks = list_any (list_any is_jump) networks
 
 -- a label of this name, whatever the case of its letters
 abbrev pub is_label : List ℕ → DiagramElement → Bool
-is_label label e = elim e.kind [ Label name ↦ bytes_eq (folded name) (folded label) | _ ↦ false ]
+is_label label e = elim e.kind [ Label name ↦ bytes_eq (in_lower_case name) (in_lower_case label) | _ ↦ false ]
 
 -- the number of the network that the label stands in
 abbrev pub target : List ℕ → List (List DiagramElement) → ℕ
@@ -205,9 +205,9 @@ target label (network ∷ networks) = if list_any (is_label label) network then 
 -- the program of a name
 abbrev pub program_named : List ℕ → Project → Option Pou
 program_named name [] = None
-program_named name (p ∷ ps) = if is_program p.kind && bytes_eq (folded p.name) (folded name) then Some p else program_named name ps
+program_named name (p ∷ ps) = if is_program p.kind && bytes_eq (in_lower_case p.name) (in_lower_case name) then Some p else program_named name ps
 
 -- the function block of a name
 abbrev pub block_named : List ℕ → Project → Option Pou
 block_named name [] = None
-block_named name (p ∷ ps) = if not (is_program p.kind) && bytes_eq (folded p.name) (folded name) then Some p else block_named name ps
+block_named name (p ∷ ps) = if not (is_program p.kind) && bytes_eq (in_lower_case p.name) (in_lower_case name) then Some p else block_named name ps

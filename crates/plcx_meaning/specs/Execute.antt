@@ -4,7 +4,7 @@ use Rattle.std.specs.List.{list_any, list_all}
 use Rattle.std.specs.Str.{bytes_eq}
 use Rattle.plcx_types.specs.declared.ty.Ty.{Ty}
 use Rattle.plcx_types.specs.declared.ty.Ty.TheVariants as ty
-use Rattle.plcx_types.specs.Name.{folded}
+use Rattle.plcx_types.specs.Name.{in_lower_case}
 use Rattle.plcx_types.specs.TypeName.{same_ty}
 use Rattle.plcx_types.specs.Value.{Value}
 use Rattle.plcx_std.specs.Kind.{kind_named}
@@ -51,7 +51,7 @@ pub record TextSetting : Type 0 where
 
 -- what a name means where a statement stands
 abbrev pub referent_of : TextSetting → List ℕ → Referent
-referent_of c x = referent c.world (variable_named (folded x) c.variables)
+referent_of c x = referent c.world (variable_named (in_lower_case x) c.variables)
 
 -- what a scan changes: the leaves, those of memories among them, and the turns that are left
 pub record TextState : Type 0 where
@@ -68,7 +68,7 @@ fresh vs key = initial_of (variable_named key vs)
 
 -- a temporary gets a value
 abbrev pub hold : Frame → List ℕ → ℤ → Frame
-hold f x v key = if bytes_eq key (folded x) then v else f key
+hold f x v key = if bytes_eq key (in_lower_case x) then v else f key
 
 -- what follows a value; a fault stops the scan, and without a meaning there is no step
 abbrev pub with_value : {A L : Type 0} → Answer A → TextState → (A → Outcome TextState L) → Outcome TextState L
@@ -82,23 +82,23 @@ with_truth a g go = with_value a g (λ v. if same_ty v.ty ty.Bool then go (is_tr
 
 -- the leaf that a name stands for, where it stands for one
 abbrev pub leaf_at : Referent → List ℕ → Site → Path
-leaf_at (Kept t) x site = folded x ∷ site.path
-leaf_at (Bound t) x site = site.bound (folded x)
+leaf_at (Kept t) x site = in_lower_case x ∷ site.path
+leaf_at (Bound t) x site = site.bound (in_lower_case x)
 leaf_at (Temporary t) x site = []
 leaf_at (Instance type) x site = []
 leaf_at Unknown x site = []
 
 -- the value that a name has, with its declared type
 abbrev pub read : Referent → List ℕ → Site → (Path → ℤ) → Frame → Answer Value
-read (Kept t) x site s f = Given (value t (s (folded x ∷ site.path)))
-read (Bound t) x site s f = Given (value t (s (site.bound (folded x))))
-read (Temporary t) x site s f = Given (value t (f (folded x)))
+read (Kept t) x site s f = Given (value t (s (in_lower_case x ∷ site.path)))
+read (Bound t) x site s f = Given (value t (s (site.bound (in_lower_case x))))
+read (Temporary t) x site s f = Given (value t (f (in_lower_case x)))
 read (Instance type) x site s f = Missing
 read Unknown x site s f = Missing
 
 -- the variables of the instance of a name
 abbrev pub parts_named : TextSetting → List ℕ → List Variable
-parts_named c i = parts_of c.world (variable_named (folded i) c.variables)
+parts_named c i = parts_of c.world (variable_named (in_lower_case i) c.variables)
 
 -- what can be read from outside of an instance: an output of an elementary type
 abbrev pub read_member : Meaning → Class → Path → (Path → ℤ) → Answer Value
@@ -134,7 +134,7 @@ abbrev mutual
   pub value_of : Expression → TextSetting → (Path → ℤ) → Frame → Answer Value
   value_of (Number v) c s f = Given v
   value_of (Name x) c s f = read (referent_of c x) x c.site s f
-  value_of (Member i x) c s f = read_output c.world (variable_named (folded x) (parts_named c i)) (folded x ∷ folded i ∷ c.site.path) s
+  value_of (Member i x) c s f = read_output c.world (variable_named (in_lower_case x) (parts_named c i)) (in_lower_case x ∷ in_lower_case i ∷ c.site.path) s
   value_of (Apply x es) c s f = on_value (values_of es c s f) (call_named (function_named x))
   value_of (Not e) c s f = on_value (value_of e c s f) (λ v. call_function func.Not (v ∷ []))
   value_of (Binary op a b) c s f = on_value (value_of a c s f) (λ v. on_value (value_of b c s f) (λ w. call_function (function_of op) (v ∷ w ∷ [])))
@@ -146,8 +146,8 @@ abbrev mutual
 
 -- a value goes to a place of its type
 abbrev pub assign : Referent → List ℕ → Site → Value → TextState → Frame → Outcome TextState Frame
-assign (Kept t) x site v g f = if same_ty v.ty t then Ended (record g { store = put g.store (folded x ∷ site.path) v.n }) f else Stuck
-assign (Bound t) x site v g f = if same_ty v.ty t then Ended (record g { store = put g.store (site.bound (folded x)) v.n }) f else Stuck
+assign (Kept t) x site v g f = if same_ty v.ty t then Ended (record g { store = put g.store (in_lower_case x ∷ site.path) v.n }) f else Stuck
+assign (Bound t) x site v g f = if same_ty v.ty t then Ended (record g { store = put g.store (site.bound (in_lower_case x)) v.n }) f else Stuck
 assign (Temporary t) x site v g f = if same_ty v.ty t then Ended g (hold f x v.n) else Stuck
 assign (Instance type) x site v g f = Stuck
 assign Unknown x site v g f = Stuck
@@ -171,7 +171,7 @@ formal world (Some v) = formal_by (meaning world v.ty) v.class
 
 -- what a formal name of a call of this instance is
 abbrev pub formal_named : TextSetting → List ℕ → List ℕ → Formal
-formal_named c i x = formal c.world (variable_named (folded x) (parts_named c i))
+formal_named c i x = formal c.world (variable_named (in_lower_case x) (parts_named c i))
 
 -- a variable of this type with a leaf, its own or one that it is bound to
 abbrev pub has_leaf : Referent → Ty → Bool
@@ -196,7 +196,7 @@ store_argument NoFormal a c p old f g go = Stuck
 abbrev pub store_arguments : List Argument → TextSetting → List ℕ → TextState → Frame → TextState → (TextState → Outcome TextState Frame) → Outcome TextState Frame
 store_arguments [] c i old f g go = go g
 store_arguments (a ∷ rest) c i old f g go =
-    store_argument (formal_named c i a.formal) a c (folded a.formal ∷ folded i ∷ c.site.path) old f g (λ h. store_arguments rest c i old f h go)
+    store_argument (formal_named c i a.formal) a c (in_lower_case a.formal ∷ in_lower_case i ∷ c.site.path) old f g (λ h. store_arguments rest c i old f h go)
 
 -- the leaf of the variable that an expression names
 abbrev pub leaf_in : TextSetting → Expression → Path
@@ -212,11 +212,11 @@ binds NoFormal = false
 -- the in-outs of the instance that is called stand for the leaves that their arguments name
 abbrev pub bind : List Argument → TextSetting → List ℕ → List ℕ → Path
 bind [] c i key = []
-bind (a ∷ rest) c i key = if binds (formal_named c i a.formal) && bytes_eq (folded a.formal) key then leaf_in c a.value else bind rest c i key
+bind (a ∷ rest) c i key = if binds (formal_named c i a.formal) && bytes_eq (in_lower_case a.formal) key then leaf_in c a.value else bind rest c i key
 
 -- a call has an argument for each in-out
 abbrev pub is_bound : List Argument → Variable → Bool
-is_bound args v = elim v.class [ InOut ↦ list_any (λ (a : Argument). bytes_eq (folded a.formal) (folded v.name)) args | _ ↦ true ]
+is_bound args v = elim v.class [ InOut ↦ list_any (λ (a : Argument). bytes_eq (in_lower_case a.formal) (in_lower_case v.name)) args | _ ↦ true ]
 
 -- each in-out of the instance has an argument
 abbrev pub all_bound : List Argument → List Variable → Bool
@@ -239,7 +239,7 @@ abbrev pub call_runs : List ℕ → List Argument → TextSetting → TextCalls 
 call_runs i args c call g f =
     found (type_of_instance (referent_of c i)) (λ type.
     if all_bound args (parts_named c i)
-    then store_arguments args c i g f g (λ h. then_do (call type (record { path = folded i ∷ c.site.path; bound = bind args c i }) h) (λ k u. Ended k f))
+    then store_arguments args c i g f g (λ h. then_do (call type (record { path = in_lower_case i ∷ c.site.path; bound = bind args c i }) h) (λ k u. Ended k f))
     else Stuck)
 
 -- A loop: each turn costs one of the budget. The first number only bounds the recursion; it is the number of turns that are left.
@@ -286,12 +286,12 @@ pou_runs p world call site g =
 -- the program of a name
 abbrev pub program_named : List ℕ → List PouText → Option PouText
 program_named name [] = None
-program_named name (p ∷ ps) = if is_program p.kind && bytes_eq (folded p.name) (folded name) then Some p else program_named name ps
+program_named name (p ∷ ps) = if is_program p.kind && bytes_eq (in_lower_case p.name) (in_lower_case name) then Some p else program_named name ps
 
 -- the function block of a name
 abbrev pub block_named : List ℕ → List PouText → Option PouText
 block_named name [] = None
-block_named name (p ∷ ps) = if not (is_program p.kind) && bytes_eq (folded p.name) (folded name) then Some p else block_named name ps
+block_named name (p ∷ ps) = if not (is_program p.kind) && bytes_eq (in_lower_case p.name) (in_lower_case name) then Some p else block_named name ps
 
 -- what the names of a unit's function blocks declare
 abbrev pub world_of : List PouText → World

@@ -5,7 +5,7 @@ use Rattle.std.specs.List.{list_any, list_all, sum_by, Contains}
 use Rattle.std.specs.Str.{bytes_eq}
 use Rattle.plcx_types.specs.declared.ty.Ty.{Ty}
 use Rattle.plcx_types.specs.declared.ty.Ty.TheVariants as ty
-use Rattle.plcx_types.specs.Name.{folded, is_identifier, is_next_byte}
+use Rattle.plcx_types.specs.Name.{in_lower_case, is_identifier, is_next_byte}
 use Rattle.plcx_types.specs.Range.{InRange}
 use Rattle.plcx_types.specs.Reserved.{is_reserved}
 use Rattle.plcx_types.specs.TypeName.{type_named}
@@ -28,7 +28,7 @@ IsGoodName name = IsTrue (is_identifier name) × (length name ≤ 64) × (is_res
 -- the name is declared with the type among these variables, in a class of these
 pub record HasType (vs : List Variable) (x : List ℕ) (t : Ty) (Suits : Class → Type 0) : Type 0 where
   pub variable : Variable
-  pub found : variable_named (folded x) vs ≡ Some variable
+  pub found : variable_named (in_lower_case x) vs ≡ Some variable
   pub typed : type_named variable.ty ≡ Some t
   pub class : Suits variable.class
 
@@ -38,12 +38,12 @@ IsVariable vs x t = HasType vs x t (λ class. class ≢ Temp)
 
 -- a variable that can be written: no input and no constant
 abbrev pub CanBeWritten : List Variable → List ℕ → Type 0
-CanBeWritten vs x = (v : Variable) → variable_named (folded x) vs ≡ Some v → (v.class ≢ tree.Input) × (v.mark ≢ tree.Constant)
+CanBeWritten vs x = (v : Variable) → variable_named (in_lower_case x) vs ≡ Some v → (v.class ≢ tree.Input) × (v.mark ≢ tree.Constant)
 
 -- an instance, and the variables within it
 pub record IsInstance (world : World) (vs : List Variable) (i : List ℕ) (within : List Variable) : Type 0 where
   pub variable : Variable
-  pub found : variable_named (folded i) vs ≡ Some variable
+  pub found : variable_named (in_lower_case i) vs ≡ Some variable
   pub composite : type_named variable.ty ≡ None
   pub parts : within ≡ composed world variable.ty
 
@@ -105,7 +105,7 @@ OutputFits within o = HasType within o.name o.ty (λ class. class ≡ tree.Outpu
 
 -- each in-out of a block is one of the listed
 abbrev pub all_listed : List InOutPin → List Variable → Bool
-all_listed in_outs vs = list_all (λ (v : Variable). elim v.class [ tree.InOut ↦ list_any (λ (i : InOutPin). bytes_eq (folded i.name) (folded v.name)) in_outs | _ ↦ true ]) vs
+all_listed in_outs vs = list_all (λ (v : Variable). elim v.class [ tree.InOut ↦ list_any (λ (i : InOutPin). bytes_eq (in_lower_case i.name) (in_lower_case v.name)) in_outs | _ ↦ true ]) vs
 
 -- a call is one of an instance, whose inputs, in-outs and outputs suit its block
 pub record CallFits (at : Standing) (instance : List ℕ) (taken : List InputPin) (bound : List InOutPin) (given : List OutputPin) : Type 0 where
@@ -116,7 +116,7 @@ pub record CallFits (at : Standing) (instance : List ℕ) (taken : List InputPin
   pub all : all_listed bound within ≡ true
   pub outputs : Each (OutputFits within) given
   -- nothing is named twice
-  pub formals : are_distinct (map (λ (i : InputPin). folded i.name) taken ++ map (λ (i : InOutPin). folded i.name) bound) ≡ true
+  pub formals : are_distinct (map (λ (i : InputPin). in_lower_case i.name) taken ++ map (λ (i : InOutPin). in_lower_case i.name) bound) ≡ true
 
 -- a function is one that there is, and its inputs suit its signature at the type of its group
 pub record FunctionFits (at : Standing) (f : Func) (t : Ty) (links : List Link) : Type 0 where
@@ -166,7 +166,7 @@ IsPin o = (list_all is_next_byte o.pin ≡ true) × (length o.pin ≤ 64)
 -- an element's outputs have names of their own, and those that feed back are the ones that are read so
 pub record PortsFit (p : Pou) (e : DiagramElement) : Type 0 where
   pub small : e.id < 2 ^ 64
-  pub pins : are_distinct (map (λ (o : Port). folded o.pin) (ports e.kind)) ≡ true
+  pub pins : are_distinct (map (λ (o : Port). in_lower_case o.pin) (ports e.kind)) ≡ true
   pub fed : e.fed ≡ filter (is_fed p e.id) (ports e.kind)
   pub names : Each IsPin (ports e.kind)
 
@@ -210,7 +210,7 @@ parts (suc n) project p = sum_by (λ (e : DiagramElement). suc (length e.fed)) p
 pub record PouFits (project : Project) (p : Pou) : Type 0 where
   pub name : IsGoodName p.name
   pub variables : Each (VariableFits project) (variables_of p.lists)
-  pub distinct : are_distinct (map (λ (v : Variable). folded v.name) (variables_of p.lists)) ≡ true
+  pub distinct : are_distinct (map (λ (v : Variable). in_lower_case v.name) (variables_of p.lists)) ≡ true
   pub few : length (variables_of p.lists) ≤ 4096
   pub ids : all_differ (map (λ (e : DiagramElement). e.id) p.elements) ≡ true
   pub elements : length p.elements ≤ 4096
@@ -230,6 +230,6 @@ PouNests (suc n) project p = (x : List ℕ) (v : Variable) → variable_named x 
 
 -- what is promised of a project: no two POUs have one name, each fits, and none has more than 16 levels of blocks below it
 pub record ProjectFits (project : Project) : Type 0 where
-  pub names : are_distinct (map (λ (p : Pou). folded p.name) project) ≡ true
+  pub names : are_distinct (map (λ (p : Pou). in_lower_case p.name) project) ≡ true
   pub pous : Each (PouFits project) project
   pub nests : Each (PouNests 16 project) project

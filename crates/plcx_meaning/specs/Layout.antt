@@ -3,7 +3,7 @@ use Rattle.std.specs.Prelude.{◌≡◌, ℕ, zero, suc, ℤ, pos, Bool, true, f
 use Rattle.std.specs.List.{list_any, flat_map}
 use Rattle.std.specs.Str.{bytes_eq}
 use Rattle.plcx_types.specs.declared.ty.Ty.{Ty}
-use Rattle.plcx_types.specs.Name.{folded}
+use Rattle.plcx_types.specs.Name.{in_lower_case}
 use Rattle.plcx_types.specs.Range.{InRange}
 use Rattle.plcx_types.specs.Reserved.{is_own}
 use Rattle.plcx_types.specs.TypeName.{type_named}
@@ -41,7 +41,7 @@ variables_of blocks = flat_map block_variables blocks
 -- the variable of this name without case, the first where it is declared twice
 abbrev pub variable_named : List ℕ → List Variable → Option Variable
 variable_named key [] = None
-variable_named key (v ∷ vs) = if bytes_eq (folded v.name) key then Some v else variable_named key vs
+variable_named key (v ∷ vs) = if bytes_eq (in_lower_case v.name) key then Some v else variable_named key vs
 
 -- the blocks of the function blocks of a project or a unit, by their names without case
 abbrev pub World : Type 0
@@ -54,7 +54,7 @@ pub data Meaning : Type 0 where
 
 -- the variables that an instance of the name of a type has: those of a standard block, else those of the world
 abbrev pub composed : World → List ℕ → List Variable
-composed world name = elim (kind_named name) [ Some k ↦ variables_of (pin_blocks k) | None ↦ variables_of (world (folded name)) ]
+composed world name = elim (kind_named name) [ Some k ↦ variables_of (pin_blocks k) | None ↦ variables_of (world (in_lower_case name)) ]
 
 -- the names of elementary types come first, then those of standard blocks
 abbrev pub meaning : World → List ℕ → Meaning
@@ -121,7 +121,7 @@ Spelling = List (List ℕ)
 
 -- and without case
 abbrev pub path_of : Spelling → Path
-path_of names = map folded names
+path_of names = map in_lower_case names
 
 -- A leaf by its path, and how that is spelled where its names are declared. It is retained, settable from outside between scans, and shown.
 pub record Leaf : Type 0 where
