@@ -48,7 +48,7 @@ fn first_malformed(namespace: &[u8], items: &[Looked]) -> Option<u64>
 }
 
 /// The first element that breaks a rule.
-#[tactic(auto, unfolding(crate::specs::Format::breaks), using(crate::proofs::Firsts::as_structure, crate::proofs::Firsts::as_attributes))]
+#[tactic(auto, unfolding(crate::specs::Format::breaks))]
 fn first_breaking(
     alloc: Global,
     namespace: &[u8],
