@@ -1,10 +1,10 @@
 -- What a file declares, in document order: its POUs, each before its variables.
 use Rattle.std.specs.Prelude.{ℕ, Bool, true, false, List, [], ◌∷◌, map}
 use Rattle.std.specs.List.{flat_map}
-use Rattle.plcx_profile.specs.declared.draft.DraftVariable.{DraftVariable}
-use Rattle.plcx_profile.specs.declared.draft.DraftList.{DraftList}
-use Rattle.plcx_profile.specs.declared.draft.DraftPou.{DraftPou}
-use Rattle.plcx_profile.specs.declared.draft.Draft.{Draft}
+use Rattle.plcx_draft.specs.declared.draft.DraftVariable.{DraftVariable}
+use Rattle.plcx_draft.specs.declared.draft.DraftList.{DraftList}
+use Rattle.plcx_draft.specs.declared.draft.DraftPou.{DraftPou}
+use Rattle.plcx_draft.specs.declared.draft.Draft.{Draft}
 
 -- a POU, or a variable in its list
 pub data Declared : Type 0 where

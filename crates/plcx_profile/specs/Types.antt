@@ -1,44 +1,35 @@
 -- The rules on types and initial values of variables.
-use Rattle.std.specs.Prelude.{ℕ, Bool, true, false, not, ◌&&◌, ◌||◌, List, [], ◌∷◌, Option, Some, None, is_some, is_none}
-use Rattle.std.specs.List.{position}
+use Rattle.std.specs.Prelude.{ℕ, Bool, true, false, not, ◌&&◌, ◌||◌, List, [], ◌∷◌, Option, Some, None, is_some, is_none, nat_lt, ◌^◌, if◌then◌else◌}
 use Rattle.std.specs.Str.{bytes_eq}
-use Rattle.plcx_types.specs.ReadLiteral.{value_of}
+use Rattle.plcx_profile.specs.Values.{value_of}
 use Rattle.plcx_std.specs.Kind.{kind_named}
-use Rattle.plcx_model.specs.declared.project.PouKind.{PouKind}
-use Rattle.plcx_model.specs.declared.project.PouKind.TheVariants.{Program, FunctionBlock}
+use Rattle.plcx_std.specs.declared.kind.StdKind.{StdKind}
 use Rattle.plcx_model.specs.declared.project.ListClass.{ListClass}
 use Rattle.plcx_model.specs.declared.project.ListClass.TheVariants.{Local, Input, Output, InOut}
 use Rattle.plcx_model.specs.declared.project.VarTy.{VarTy}
 use Rattle.plcx_model.specs.declared.project.VarTy.TheVariants as var
-use Rattle.plcx_profile.specs.declared.draft.DraftType.{DraftType}
-use Rattle.plcx_profile.specs.declared.draft.DraftType.TheVariants.{Plain, Derived}
-use Rattle.plcx_profile.specs.declared.draft.DraftVariable.{DraftVariable}
-use Rattle.plcx_profile.specs.declared.draft.DraftList.{DraftList}
-use Rattle.plcx_profile.specs.declared.draft.DraftPou.{DraftPou}
+use Rattle.plcx_draft.specs.declared.draft.DraftType.{DraftType}
+use Rattle.plcx_draft.specs.declared.draft.DraftType.TheVariants.{Plain, Derived}
+use Rattle.plcx_draft.specs.declared.draft.DraftVariable.{DraftVariable}
+use Rattle.plcx_draft.specs.declared.draft.DraftList.{DraftList}
+use Rattle.plcx_draft.specs.declared.draft.DraftPou.{DraftPou}
+use Rattle.plcx_profile.specs.Blocks.{block_named}
 use Rattle.plcx_profile.specs.Declared.{Declared, OfPou, OfVariable}
-use Rattle.plcx_profile.specs.Names.{is_same_name}
+use Rattle.plcx_types.specs.Name.{in_lower_case}
 
-abbrev pub is_block : PouKind → Bool
-is_block Program = false
-is_block FunctionBlock = true
+-- a place is a number of 32 bits
+abbrev pub block_at : Option ℕ → Option VarTy
+block_at None = None
+block_at (Some place) = if nat_lt place (2 ^ 32) then Some (var.Block place) else None
 
--- a function block of that name
-abbrev pub is_block_named : List ℕ → DraftPou → Bool
-is_block_named name p = is_block p.kind && is_same_name name p.name
-
--- the place of the function block of that name
-unfoldable pub block_named : List DraftPou → List ℕ → Option ℕ
-block_named pous name = position (is_block_named name) pous
-
-abbrev pub standard_or : Option ℕ → _ → Option VarTy
+abbrev pub standard_or : Option VarTy → Option StdKind → Option VarTy
+standard_or block None = block
 standard_or block (Some k) = Some (var.Std k)
-standard_or (Some place) None = Some (var.Block place)
-standard_or None None = None
 
 -- the type that is meant, where there is one
 abbrev pub type_meant : List DraftPou → DraftType → Option VarTy
 type_meant pous (Plain t) = Some (var.Plain t)
-type_meant pous (Derived name) = standard_or (block_named pous name) (kind_named name)
+type_meant pous (Derived name) = standard_or (block_at (block_named pous (in_lower_case name))) (kind_named name)
 
 abbrev pub is_plain : DraftType → Bool
 is_plain (Plain t) = true

@@ -1,10 +1,12 @@
 //! The project that an exchange file stands for, or the first rule from 4 to 16 that it breaks.
 #![tactic(auto)]
 
-mod body;
-mod draft;
-mod part;
-mod read;
+mod blocks;
+mod declaration;
+mod doubling;
+mod judging;
+mod names;
+mod sizes;
+mod types;
 
-pub use draft::{Draft, DraftList, DraftPou, DraftType, DraftVariable};
-pub use read::draft_in;
+pub use judging::{DeclarationRule, declaration_verdict};

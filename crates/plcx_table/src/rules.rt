@@ -1,8 +1,10 @@
 //! The rules on the structure of a file and on its attributes.
-ghost use Rattle.std.specs.Prelude.{◌≡◌, map, not, fold, codes, option_map, option_copied};
+ghost use Rattle.std.specs.Prelude.{◌≡◌, map, not, fold, codes, option_map, option_copied, ◌||◌, nat_eq, length};
 ghost use Rattle.std.specs.List.{list_any};
 ghost use Rattle.std.specs.Str.{bytes_eq};
 ghost use Rattle.plcx_xml.specs.declared.tree.Node.{out-Node};
+ghost use Rattle.plcx_types.specs.Name.{in_lower_case};
+ghost use Rattle.plcx_table.specs.AddressForm.{is_address_form};
 ghost use Rattle.plcx_table.specs.Shown.{shown_child, shown_field};
 ghost use Rattle.plcx_table.specs.Rules.{taken_by, is_open, lacks_child, has_stray_text, breaks_structure, has_form, is_bad, is_bad_field, has_bad_field, has_bad_namespace, breaks_attributes};
 
@@ -11,6 +13,7 @@ use crate::look::{has_text, is_among, same, value_at};
 use crate::decimal::{coordinate, number};
 use crate::row::{Fate, Form, Often, Row, Taken};
 use crate::table::{Child, Field, attributes, children, holds_text};
+use plcx_types::is_address;
 use plcx_xml::{Element, Node};
 
 #[tactic(auto, unfolding(crate::specs::Rules::taken_by))]
@@ -62,6 +65,14 @@ pub fn breaks_structure(fate: Fate, element: &Element) -> bool
     }
 }
 
+/// Whether a text is empty or an address.
+#[tactic(auto, using(crate::proofs::AddressTests::address_told))]
+fn has_address_form(text: &[u8]) -> bool
+    ensures { result ≡ (nat_eq (length text.now) 0 || is_address_form (in_lower_case text.now)) }
+{
+    text.is_empty() || is_address(text)
+}
+
 #[tactic(auto, unfolding(crate::specs::Rules::has_form))]
 fn has_form(form: Form, value: &[u8]) -> bool
     ensures { result ≡ has_form form value.now }
@@ -81,7 +92,8 @@ fn has_form(form: Form, value: &[u8]) -> bool
             ],
             value,
         ),
-        Form::Address | Form::Text => true,
+        Form::Address => has_address_form(value),
+        Form::Text => true,
     }
 }
 
