@@ -130,15 +130,39 @@ fn nonempty(alloc: Global, text: &[u8]) -> Result<Option<Items<u8>>, AllocError>
     }
 }
 
+fn instance_of(alloc: Global, element: &Element) -> Result<Option<Items<u8>>, AllocError>
+    ensures { IfOk result (λ found. found ≡ nonempty (attribute_of (codes "instanceName") element.now)) }
+{
+    Ok(nonempty(alloc, attribute_of(element, "instanceName"))?)
+}
+
+fn type_of(alloc: Global, element: &Element) -> Result<Items<u8>, AllocError>
+    ensures { IfOk result (λ text. text ≡ attribute_of (codes "typeName") element.now) }
+{
+    copied(alloc, attribute_of(element, "typeName"))
+}
+
+fn input_pins(alloc: Global, element: &Element, list: &str) -> Result<Items<PinIn>, AllocError>
+    ensures { IfOk result (λ pins. pins ≡ parts_in input_pin (first_child list.now element.now)) }
+{
+    Ok(parts_in(alloc, first_child(element, list))?)
+}
+
+fn output_pins(alloc: Global, element: &Element) -> Result<Items<PinOut>, AllocError>
+    ensures { IfOk result (λ pins. pins ≡ parts_in output_pin (first_child (codes "outputVariables") element.now)) }
+{
+    Ok(parts_in(alloc, first_child(element, "outputVariables"))?)
+}
+
 #[tactic(auto, unfolding(crate::specs::BodyIn::block_in))]
 fn block_in(alloc: Global, element: &Element) -> Result<Kind, AllocError>
     ensures { IfOk result (λ kind. kind ≡ block_in element.now) }
 {
-    let type_name = copied(alloc, attribute_of(element, "typeName"))?;
-    let instance = nonempty(alloc, attribute_of(element, "instanceName"))?;
-    let inputs = parts_in(alloc, first_child(element, "inputVariables"))?;
-    let in_outs = parts_in(alloc, first_child(element, "inOutVariables"))?;
-    let outputs = parts_in(alloc, first_child(element, "outputVariables"))?;
+    let type_name = type_of(alloc, element)?;
+    let instance = instance_of(alloc, element)?;
+    let inputs = input_pins(alloc, element, "inputVariables")?;
+    let in_outs = input_pins(alloc, element, "inOutVariables")?;
+    let outputs = output_pins(alloc, element)?;
     Ok(Kind::Block {
         type_name,
         instance,

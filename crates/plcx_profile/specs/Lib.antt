@@ -5,8 +5,12 @@ pub mod Values
 pub mod Types
 pub mod Sizes
 pub mod Judged
+pub mod ProjectIn
+pub mod Profile
 -- serves proofs alone
 pub mod Seen
 pub mod Noted
 pub mod Told
 pub mod Rounds
+pub mod Fine
+pub mod Heads

@@ -1,11 +1,11 @@
 //! The project of a draft whose names are identifiers.
-ghost use Rattle.std.specs.Prelude.{◌≡◌, ◌++◌, true, map, reverse, option_map, IfOk};
+ghost use Rattle.std.specs.Prelude.{◌≡◌, true, map, length, IfOk};
 ghost use Rattle.std.specs.List.{list_all};
 ghost use Rattle.plcx_types.specs.Name.{is_identifier};
 ghost use Rattle.plcx_draft.specs.BodyIn.{nonempty};
 ghost use Rattle.plcx_profile.specs.Fine.{is_fine, is_fine_list, is_fine_pou};
 ghost use Rattle.plcx_profile.specs.ProjectIn.{type_or, initial_as, variable_of, list_of, pou_of, settled};
-ghost use Rattle.plcx_profile.specs.Heads.{head_of, with_head};
+ghost use Rattle.plcx_profile.specs.Heads.{head_of, with_head, joined};
 
 use crate::blocks::Blocks;
 use crate::types::{type_meant, value_of};
@@ -147,4 +147,41 @@ fn with_head(head: Head, pou: DraftPou) -> Pou
         lists,
         body,
     }
+}
+
+/// The POUs of some heads and drafts, which go from the last to the first.
+fn joined(
+    alloc: Global,
+    mut heads: Vec<Head>,
+    mut pous: Items<DraftPou>,
+) -> Result<Vec<Pou>, NoMemory>
+    requires { length heads.entry.items ≡ length pous.entry }
+    ensures { IfOk result (λ all. all.items ≡ joined heads.entry.items pous.entry) }
+{
+    let mut all = Vec::new(alloc);
+    while let Some(head) = heads.pop() {
+        match pous.pop() {
+            None => {}
+            Some(pou) => all.push(with_head(head, pou))?,
+        }
+    }
+    all.as_mut_slice().reverse();
+    Ok(all)
+}
+
+/// The project of a draft.
+#[tactic(auto, unfolding(crate::specs::ProjectIn::settled, crate::specs::ProjectIn::pou_of))]
+pub fn settled(alloc: Global, draft: Draft) -> Result<Project, NoMemory>
+    requires { list_all is_fine_pou draft.pous ≡ true }
+    ensures { IfOk result (λ project. project ≡ settled draft) }
+{
+    let heads = {
+        let blocks = Blocks::of(alloc, draft.pous.as_slice())?;
+        heads_in(alloc, &blocks, draft.pous.as_slice())?
+    };
+    let Draft { pous } = draft;
+    let pous = joined(alloc, heads, pous)?;
+    Ok(Project {
+        pous: Items::from_vec(pous),
+    })
 }
