@@ -1,0 +1,6 @@
+pub mod Valued
+pub mod Inserted
+pub mod Tables
+pub mod Fineness
+pub mod Levels
+pub mod Largest

@@ -1,0 +1,6 @@
+pub mod Lists
+pub mod Digits
+pub mod Listing
+pub mod Points
+pub mod Firsts
+pub mod AddressTests
