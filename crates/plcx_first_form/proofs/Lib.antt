@@ -1,0 +1,5 @@
+pub mod Distinct
+pub mod EachTaken
+pub mod Lists
+pub mod Same
+pub mod Sound
