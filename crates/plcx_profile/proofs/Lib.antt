@@ -1,4 +1,3 @@
-pub mod Valued
 pub mod Inserted
 pub mod Tables
 pub mod Fineness

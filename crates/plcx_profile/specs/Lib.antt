@@ -1,7 +1,6 @@
 pub mod Declared
 pub mod Names
 pub mod Blocks
-pub mod Values
 pub mod Types
 pub mod Sizes
 pub mod Judged

@@ -16,7 +16,7 @@ use Rattle.plcx_draft.specs.declared.draft.DraftList.{DraftList}
 use Rattle.plcx_draft.specs.declared.draft.DraftPou.{DraftPou}
 use Rattle.plcx_draft.specs.declared.draft.Draft.{Draft}
 use Rattle.plcx_profile.specs.Types.{type_meant}
-use Rattle.plcx_profile.specs.Values.{value_of}
+use Rattle.plcx_types.specs.ReadLiteral.{value_of}
 
 -- where no type is meant, any will do
 abbrev pub type_or : Option VarTy → VarTy

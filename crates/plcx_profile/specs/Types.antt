@@ -1,7 +1,7 @@
 -- The rules on types and initial values of variables.
 use Rattle.std.specs.Prelude.{ℕ, Bool, true, false, not, ◌&&◌, ◌||◌, List, [], ◌∷◌, Option, Some, None, is_some, is_none, nat_lt, ◌^◌, if◌then◌else◌}
 use Rattle.std.specs.Str.{bytes_eq}
-use Rattle.plcx_profile.specs.Values.{value_of}
+use Rattle.plcx_types.specs.ReadLiteral.{value_of}
 use Rattle.plcx_std.specs.Kind.{kind_named}
 use Rattle.plcx_std.specs.declared.kind.StdKind.{StdKind}
 use Rattle.plcx_model.specs.declared.project.ListClass.{ListClass}

@@ -19,7 +19,7 @@ pub struct Blocks<'a> {
     table: IndexMap<Vec<u8>, usize>,
 }
 
-impl Model for Blocks<'_> {
+impl<'a> Model for Blocks<'a> {
     ghost use Rattle.std.specs.Prelude.{List};
     ghost use Rattle.plcx_draft.specs.declared.draft.DraftPou.{DraftPou};
     ghost use Rattle.plcx_profile.specs.Told.{Tells};

@@ -1,5 +1,5 @@
 //! The rules on what may stand once: names of POUs, names of variables, addresses.
-ghost use Rattle.std.specs.Prelude.{◌≡◌, ℕ, List, [], ◌∷◌, ◌||◌, map, option_map, IfOk};
+ghost use Rattle.std.specs.Prelude.{◌≡◌, ℕ, List, [], ◌∷◌, ◌||◌, false, map, option_map, IfOk};
 ghost use Rattle.std.specs.Str.{bytes_eq};
 ghost use Rattle.std.specs.HashSet.{contains_by};
 ghost use Rattle.plcx_draft.specs.BodyIn.{nonempty};
@@ -74,7 +74,7 @@ fn begins(once: Once, item: &Declaration) -> bool
 /// Adds a key, and says whether it was there.
 fn add(seen: &mut HashSet<Vec<u8>>, key: Vec<u8>) -> Result<bool, AllocError>
     ensures there { IfOk result (λ there. there ≡ contains_by (λ k. bytes_eq key.items k.items) seen.old) }
-    ensures added { IfOk result (λ there. (q : List ℕ) → contains_by (λ k. bytes_eq q k.items) seen.new ≡ (bytes_eq q key.items || contains_by (λ k. bytes_eq q k.items) seen.old)) }
+    ensures added { IfOk result (λ there. there ≡ false → (q : List ℕ) → contains_by (λ k. bytes_eq q k.items) seen.new ≡ (bytes_eq q key.items || contains_by (λ k. bytes_eq q k.items) seen.old)) }
 {
     Ok(!seen.insert(key)?)
 }
@@ -87,7 +87,7 @@ fn note(
     item: &Declaration,
 ) -> Result<bool, AllocError>
     ensures again { IfOk result (λ again. (before : List Declared) → Notes once before seen.old.keys → again ≡ doubles once before (shown item.now)) }
-    ensures noted { IfOk result (λ again. (before : List Declared) → Notes once before seen.old.keys → Notes once (shown item.now ∷ before) seen.new.keys) }
+    ensures noted { IfOk result (λ again. again ≡ false → (before : List Declared) → Notes once before seen.old.keys → Notes once (shown item.now ∷ before) seen.new.keys) }
 {
     if begins(once, item) {
         *seen = HashSet::new(alloc);

@@ -5,7 +5,7 @@ ghost use Rattle.plcx_draft.specs.declared.draft.DraftType.TheVariants.{Derived}
 ghost use Rattle.plcx_profile.specs.Declared.{Declared, start_of};
 ghost use Rattle.plcx_profile.specs.Seen.{shown};
 ghost use Rattle.plcx_profile.specs.Types.{block_at, standard_or, type_meant, is_plain, is_local, is_in_out, may_hold, breaks_type, is_no_value, is_bad_initial, breaks_in_out, breaks_initial};
-ghost use Rattle.plcx_profile.specs.Values.{value_of};
+ghost use Rattle.plcx_types.specs.ReadLiteral.{value_of};
 
 use crate::blocks::Blocks;
 use crate::declaration::{Declaration, start_of};
@@ -99,10 +99,7 @@ pub fn first_bad_type(
 pub fn value_of(ty: Ty, text: &[u8]) -> Option<Val>
     ensures { result ≡ value_of ty text.now }
 {
-    match read_value(ty, text) {
-        Ok(value) => Some(value),
-        Err(_) => None,
-    }
+    read_value(ty, text).ok()
 }
 
 fn is_no_value(ty: &DraftType, text: &[u8]) -> bool

@@ -3,4 +3,3 @@ pub mod Digits
 pub mod Listing
 pub mod Points
 pub mod Firsts
-pub mod AddressTests

@@ -1,6 +1,5 @@
 pub mod Number
 pub mod Table
-pub mod AddressForm
 pub mod Walk
 pub mod Rules
 pub mod Constructs

@@ -1,5 +1,6 @@
 -- The rule on how much there may be: what is counted in the elements up to one, and how much of it is too much.
 use Rattle.std.specs.Prelude.{ℕ, ◌+◌, Bool, ◌||◌, ◌≤◌, nat_lt, List, [], ◌∷◌}
+use Rattle.plcx_types.specs.Limits.{max_pous, max_variables, max_elements, max_connections, max_pin_connections, max_pins}
 use Rattle.plcx_table.specs.declared.row.Row.TheVariants.{Program, FunctionBlock, Variable, Diagram, Comment, Vendor, Block, InputPins, InOutPins, InputPin, InOutPin, PointIn, Connection, RailConnection}
 use Rattle.plcx_table.specs.declared.row.Row.TheVariants.{InVariable, OutVariable, Contact, Coil, Connector, Continuation, Label, Jump, Return, LeftRail, RightRail}
 use Rattle.plcx_table.specs.declared.row.Fate.{Fate}
@@ -60,7 +61,8 @@ counts_in (x ∷ before) = with_fate x.fate (counts_in before)
 
 -- there is more of something than there may be
 unfoldable pub is_too_much : Counts → Bool
-is_too_much c = nat_lt 256 c.pous || nat_lt 4096 c.variables || nat_lt 4096 c.elements || nat_lt 16384 c.connections || nat_lt 64 c.pin_connections || nat_lt 64 c.pins
+is_too_much c = nat_lt max_pous c.pous || nat_lt max_variables c.variables || nat_lt max_elements c.elements || nat_lt max_connections c.connections
+    || nat_lt max_pin_connections c.pin_connections || nat_lt max_pins c.pins
 
 -- up to this element there is too much: the first such is the one that is too many
 abbrev pub breaks_limits : List Item → Item → Bool
@@ -68,9 +70,9 @@ breaks_limits before x = is_too_much (counts_in (x ∷ before))
 
 -- Serves proofs: there is not too much of anything.
 pub record IsFew (c : Counts) : Type 0 where
-  pub pous : c.pous ≤ 256
-  pub variables : c.variables ≤ 4096
-  pub elements : c.elements ≤ 4096
-  pub connections : c.connections ≤ 16384
-  pub pin_connections : c.pin_connections ≤ 64
-  pub pins : c.pins ≤ 64
+  pub pous : c.pous ≤ max_pous
+  pub variables : c.variables ≤ max_variables
+  pub elements : c.elements ≤ max_elements
+  pub connections : c.connections ≤ max_connections
+  pub pin_connections : c.pin_connections ≤ max_pin_connections
+  pub pins : c.pins ≤ max_pins

@@ -2,7 +2,7 @@
 use Rattle.std.specs.Prelude.{◌≡◌, ℕ, ◌<◌, Bool, true, false, not, ◌&&◌, ◌||◌, nat_eq, nat_lt, length, List, [], ◌∷◌, codes, fold, Option, Some, None, is_some}
 use Rattle.std.specs.List.{list_any}
 use Rattle.std.specs.Str.{bytes_eq}
-use Rattle.plcx_types.specs.Name.{in_lower_case}
+use Rattle.plcx_types.specs.ReadAddress.{is_address}
 use Rattle.plcx_xml.specs.Look.{children_of}
 use Rattle.plcx_xml.specs.declared.tree.Node.{Node, out-Node}
 use Rattle.plcx_xml.specs.declared.tree.Element.{Element}
@@ -16,7 +16,6 @@ use Rattle.plcx_table.specs.declared.row.Form.TheVariants.{Whole, Coordinate, Bo
 use Rattle.plcx_table.specs.declared.row.Form.TheVariants as form
 use Rattle.plcx_table.specs.declared.row.Taken.{Taken}
 use Rattle.plcx_table.specs.Table.{Child, Field, children, attributes, holds_text}
-use Rattle.plcx_table.specs.AddressForm.{is_address_form}
 use Rattle.plcx_table.specs.Number.{is_number, is_coordinate}
 use Rattle.plcx_table.specs.Walk.{values_of, is_taken, none_taken, taken_behind, has_text}
 
@@ -55,7 +54,7 @@ has_form Edge v = is_among (codes "none" ∷ codes "rising" ∷ codes "falling" 
 has_form Storage v = is_among (codes "none" ∷ codes "set" ∷ codes "reset" ∷ []) v
 has_form PouType v = is_among (codes "program" ∷ codes "functionBlock" ∷ codes "function" ∷ []) v
 has_form Namespace v = is_among (codes "http://www.plcopen.org/xml/tc6_0201" ∷ codes "http://www.plcopen.org/xml/tc6_0200" ∷ []) v
-has_form Address v = nat_eq (length v) 0 || is_address_form (in_lower_case v)
+has_form Address v = nat_eq (length v) 0 || is_address v
 has_form Nonempty v = nat_lt 0 (length v)
 has_form form.Text v = true
 

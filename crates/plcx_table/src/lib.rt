@@ -18,7 +18,7 @@ mod verdict;
 mod walk;
 
 pub use fate::fate_for;
-pub use laws::{addresses_are_told, one_format_verdict};
+pub use laws::one_format_verdict;
 pub use look::{attribute_of, first_value, number_at, same};
 pub use decimal::{coordinate, number};
 pub use row::{Fate, Form, FormatRule, Often, Row, Seat, Taken};

@@ -9,17 +9,20 @@ ghost use Rattle.plcx_table.specs.declared.row.FormatRule.TheVariants.{Limits};
 
 use crate::row::{Fate, Row};
 use crate::walk::Looked;
+use plcx_types::limits::{
+    MAX_CONNECTIONS, MAX_ELEMENTS, MAX_PIN_CONNECTIONS, MAX_PINS, MAX_POUS, MAX_VARIABLES,
+};
 
 /// What is counted: POUs, the variables of a POU, the elements and connections of a body, the connections of a pin
 /// that isn't a right rail's, and the pins of a list of inputs or in-outs.
 #[derive(Clone, Copy)]
 pub struct Counts {
-    pub pous: u64,
-    pub variables: u64,
-    pub elements: u64,
-    pub connections: u64,
-    pub pin_connections: u64,
-    pub pins: u64,
+    pub pous: usize,
+    pub variables: usize,
+    pub elements: usize,
+    pub connections: usize,
+    pub pin_connections: usize,
+    pub pins: usize,
 }
 
 fn no_counts() -> Counts
@@ -116,12 +119,12 @@ fn is_too_much(counts: Counts) -> bool
     ensures value { result ≡ is_too_much counts }
     ensures few { result ≡ false → IsFew counts }
 {
-    counts.pous > 256
-        || counts.variables > 4096
-        || counts.elements > 4096
-        || counts.connections > 16_384
-        || counts.pin_connections > 64
-        || counts.pins > 64
+    counts.pous > MAX_POUS
+        || counts.variables > MAX_VARIABLES
+        || counts.elements > MAX_ELEMENTS
+        || counts.connections > MAX_CONNECTIONS
+        || counts.pin_connections > MAX_PIN_CONNECTIONS
+        || counts.pins > MAX_PINS
 }
 
 /// The first element that is one too many.

@@ -3,8 +3,7 @@ ghost use Rattle.std.specs.Prelude.{◌≡◌, map, not, fold, codes, option_map
 ghost use Rattle.std.specs.List.{list_any};
 ghost use Rattle.std.specs.Str.{bytes_eq};
 ghost use Rattle.plcx_xml.specs.declared.tree.Node.{out-Node};
-ghost use Rattle.plcx_types.specs.Name.{in_lower_case};
-ghost use Rattle.plcx_table.specs.AddressForm.{is_address_form};
+ghost use Rattle.plcx_types.specs.ReadAddress.{is_address};
 ghost use Rattle.plcx_table.specs.Shown.{shown_child, shown_field};
 ghost use Rattle.plcx_table.specs.Rules.{taken_by, is_open, lacks_child, has_stray_text, breaks_structure, has_form, is_bad, is_bad_field, has_bad_field, has_bad_namespace, breaks_attributes};
 
@@ -66,9 +65,8 @@ pub fn breaks_structure(fate: Fate, element: &Element) -> bool
 }
 
 /// Whether a text is empty or an address.
-#[tactic(auto, using(crate::proofs::AddressTests::address_told))]
 fn has_address_form(text: &[u8]) -> bool
-    ensures { result ≡ (nat_eq (length text.now) 0 || is_address_form (in_lower_case text.now)) }
+    ensures { result ≡ (nat_eq (length text.now) 0 || is_address text.now) }
 {
     text.is_empty() || is_address(text)
 }
