@@ -1,13 +1,10 @@
 pub mod ManyTimes
 pub mod Runs
 pub mod Steps
+pub mod Enclosing
+pub mod Digits
+pub mod PiecesRead
+pub mod WrittenLaws
 pub mod Values
 pub mod AttributeLaws
 pub mod TagLaws
-pub mod TokenLaws
-pub mod TreeRuns
-pub mod Closing
-pub mod TreeParts
-pub mod Reached
-pub mod Finished
-pub mod OneTree

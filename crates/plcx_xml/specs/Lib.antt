@@ -1,11 +1,8 @@
 pub mod Look
 pub mod Character
+pub mod Reference
 pub mod Grammar
-pub mod Events
-pub mod StandsForTree
 pub mod Reading
 pub mod RawParts
+pub mod Pieces
 pub mod Reads
-pub mod Nesting
-pub mod Refuses
-pub mod Built

@@ -5,17 +5,14 @@
 //! a time: its name, its attributes, and its children.
 #![tactic(auto)]
 
-mod building;
 mod laws;
 mod lexing;
 mod look;
-mod reading;
+mod reference;
 mod token;
 mod tokens;
 mod tree;
+mod value;
 
-pub use building::XmlError;
-pub use laws::one_tree;
-pub use reading::read_tree;
 pub use token::{Kind, Token};
 pub use tree::{Attribute, Element, Node, Text};
