@@ -8,3 +8,4 @@ pub mod WrittenLaws
 pub mod Values
 pub mod AttributeLaws
 pub mod TagLaws
+pub mod TokenLaws

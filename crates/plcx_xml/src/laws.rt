@@ -1,12 +1,9 @@
 //! Laws on the definitions, for whoever reads them.
 ghost use Rattle.std.specs.Prelude.{◌≡◌, ◌+◌, ℕ, List, length, Some, ◌≤◌};
-ghost use Rattle.plcx_xml.specs.Reads.{attribute_at};
-ghost use Rattle.plcx_xml.specs.declared.tree.Attribute.{Attribute};
-ghost use Rattle.plcx_xml.specs.Grammar.{SpellsAttribute, SpellsEnd};
-ghost use Rattle.plcx_xml.specs.Reading.{end_at};
+ghost use Rattle.plcx_xml.specs.Reads.{token_at};
+ghost use Rattle.plcx_xml.specs.declared.token.Token.{Token};
+ghost use Rattle.plcx_xml.specs.Grammar.{StandsAt};
 
 pub fn trial()
-    ensures a { (last at : ℕ) (front : List ℕ) (a : Attribute) (rest : List ℕ) → SpellsAttribute at a front → at + length front + length rest ≡ last → attribute_at last (front ++ rest) ≡ Some (a, rest) }
-    ensures b { (name text rest : List ℕ) → SpellsEnd name text → end_at (text ++ rest) ≡ Some (name, rest) }
+    ensures { (last at : ℕ) (bytes : List ℕ) (t : Token) (rest : List ℕ) → StandsAt at bytes t rest → at + length bytes ≡ last → token_at last bytes ≡ Some (t, rest) }
 {}
-ghost use Rattle.std.specs.Prelude.{◌++◌};
