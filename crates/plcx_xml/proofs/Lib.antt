@@ -9,3 +9,10 @@ pub mod Values
 pub mod AttributeLaws
 pub mod TagLaws
 pub mod TokenLaws
+pub mod Closing
+pub mod Views
+pub mod Texts
+pub mod TreeRuns
+pub mod Links
+pub mod TreeParts
+pub mod Reached

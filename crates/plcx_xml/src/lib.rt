@@ -5,6 +5,8 @@
 //! a time: its name, its attributes, and its children.
 #![tactic(auto)]
 
+mod building;
+mod error;
 mod laws;
 mod lexing;
 mod look;
@@ -14,5 +16,7 @@ mod tokens;
 mod tree;
 mod value;
 
+pub use building::{Build, take_token};
+pub use error::XmlError;
 pub use token::{Kind, Token};
 pub use tree::{Attribute, Element, Node, Text};
