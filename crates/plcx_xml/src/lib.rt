@@ -6,16 +6,17 @@
 #![tactic(auto)]
 
 mod building;
+mod error;
 mod laws;
 mod lexing;
 mod look;
-mod reading;
+mod reference;
 mod token;
 mod tokens;
 mod tree;
+mod value;
 
-pub use building::XmlError;
-pub use laws::one_tree;
-pub use reading::read_tree;
+pub use building::{Build, take_token};
+pub use error::XmlError;
 pub use token::{Kind, Token};
 pub use tree::{Attribute, Element, Node, Text};
