@@ -23,9 +23,8 @@ use Rattle.plcx_st.specs.Print.{printed}
 use Rattle.plcx_st.specs.InRange.{UnitInRange}
 use Rattle.plcx_st.specs.Fitting.{UnitFits}
 use Rattle.plcx_xml.specs.declared.tree.Element.{Element}
-use Rattle.plcx_xml.specs.StandsForTree.{IsTreeOf, StandsForTree}
-use Rattle.plcx_first_profile.specs.ProjectAt.{project_at}
-use Rattle.plcx_command.specs.FirstForm.{IsTextOf, IsReadBack, IsCompiled, HasFirstForm}
+use Rattle.plcx_xml.specs.StandsForTree.{IsTreeOf}
+use Rattle.plcx_command.specs.FirstForm.{IsTextOf, IsReadBack, IsCompiled}
 
 -- the one item of a list
 pub the_item : (ps : List Pou) (p q : Pou) → ps ≡ p ∷ [] → q ≡ get_or ps 0 q → q ≡ p
@@ -74,23 +73,6 @@ module _
       read_back = subst (λ t. IsReadBack t (diagram_of p ns ∷ [])) (sym (printed_is ∙ ap printed same)) (read_back (diagram_of p ns ∷ []) fits);
     }
 
--- bytes whose one tree stands for no project have not the form
-pub no_project : (one_tree : (bytes : List ℕ) (a b : Element) → StandsForTree bytes a → StandsForTree bytes b → a ≡ b) (bytes : List ℕ) (root : Element)
-    → IsTreeOf bytes root → project_at root ≡ None → HasFirstForm bytes → ⊥
-no_project one_tree bytes root tree none form =
-    let same : form.root ≡ root = one_tree bytes form.root root form.tree.stands tree.stands in
-    let found = rw same at form.stands in
-    cc
-
--- nor have those whose project's body is not built
-pub no_shape : (one_tree : (bytes : List ℕ) (a b : Element) → StandsForTree bytes a → StandsForTree bytes b → a ≡ b) (bytes : List ℕ) (root : Element) (project : Project)
-    → IsTreeOf bytes root → project_at root ≡ Some project → (IsFirstShape project → ⊥) → HasFirstForm bytes → ⊥
-no_shape one_tree bytes root project tree stands not_first form =
-    let same : form.root ≡ root = one_tree bytes form.root root form.tree.stands tree.stands in
-    let found : Some form.project ≡ Some project = sym (rw same at form.stands) ∙ stands in
-    let is : form.project ≡ project = cc in
-    not_first (subst IsFirstShape is form.shape)
-
 -- a project has one text
 same-text : (one_plan : (p : Pou) (ns ms : List (List model.Element)) → AreNetworks p ns → AreNetworks p ms → ns ≡ ms) (project : Project) (a b : List ℕ)
     → IsTextOf project a → IsTextOf project b → a ≡ b
@@ -102,10 +84,10 @@ same-text one_plan project a b x y =
     x.text_is ∙ ap (λ (p : Pou). printed (unit_of (diagram_of p x.networks ∷ []))) pou ∙ ap (λ (ns : List (List model.Element)). printed (unit_of (diagram_of y.pou ns ∷ []))) networks ∙ sym y.text_is
 
 -- and so have bytes
-pub one_compiled : (one_tree : (bytes : List ℕ) (a b : Element) → StandsForTree bytes a → StandsForTree bytes b → a ≡ b) (one_plan : (p : Pou) (ns ms : List (List model.Element)) → AreNetworks p ns → AreNetworks p ms → ns ≡ ms)
+pub one_compiled : (one_root : (bytes : List ℕ) (a b : Element) → IsTreeOf bytes a → IsTreeOf bytes b → a ≡ b) (one_plan : (p : Pou) (ns ms : List (List model.Element)) → AreNetworks p ns → AreNetworks p ms → ns ≡ ms)
     → (bytes a b : List ℕ) → IsCompiled bytes a → IsCompiled bytes b → a ≡ b
-one_compiled one_tree one_plan bytes a b x y =
-    let root : x.root ≡ y.root = one_tree bytes x.root y.root x.tree.stands y.tree.stands in
+one_compiled one_root one_plan bytes a b x y =
+    let root : x.root ≡ y.root = one_root bytes x.root y.root x.tree y.tree in
     let found : Some x.project ≡ Some y.project = sym (rw root at x.stands) ∙ y.stands in
     let project : x.project ≡ y.project = cc in
     same-text one_plan y.project a b (subst (λ (p : Project). IsTextOf p a) project x.text_of) y.text_of

@@ -1,7 +1,9 @@
 -- What is to be written: a whole output, or the line of a refusal.
 use Rattle.std.specs.Prelude.{ℕ, List, [], ◌∷◌, ◌++◌, codes}
 use Rattle.std.specs.Fmt.{decimal}
-use Rattle.plcx_command.specs.Verdict.{Place, AtByte, AtElement}
+use Rattle.plcx_model.specs.declared.broken.Broken as model
+use Rattle.plcx_model.specs.declared.broken.Place.{Place}
+use Rattle.plcx_model.specs.declared.broken.Place.TheVariants.{Byte, Element}
 use Rattle.plcx_command.specs.declared.status.Refused.{Refused}
 use Rattle.plcx_command.specs.declared.status.Refused.TheVariants.{Broken, Usage, ReadFault, NoMemory, NotBuilt}
 
@@ -48,11 +50,11 @@ write_line = line (codes "cannot write")
 
 -- where a rule is broken, as it is told
 abbrev pub place_words : Place → List ℕ
-place_words (AtByte at) = codes "byte " ++ decimal at
-place_words (AtElement pou local_id) = pou ++ (codes " " ++ decimal local_id)
+place_words (Byte at) = codes "byte " ++ decimal at
+place_words (Element pou local_id) = pou ++ (codes " " ++ decimal local_id)
 
-abbrev pub broken_line : ℕ → Place → List ℕ
-broken_line rule place = line (codes "rule " ++ (decimal rule ++ (codes " at " ++ place_words place)))
+abbrev pub broken_line : model.Broken → List ℕ
+broken_line b = line (codes "rule " ++ (decimal b.rule.0 ++ (codes " at " ++ place_words b.place)))
 
-abbrev pub broken_answer : ℕ → Place → Answer
-broken_answer rule place = refusal Broken (broken_line rule place)
+abbrev pub broken_answer : model.Broken → Answer
+broken_answer b = refusal Broken (broken_line b)

@@ -2,6 +2,7 @@ pub mod Answer
 pub mod Ends
 pub mod FirstForm
 pub mod Headline
+pub mod JudgementOf
 pub mod Refused
 pub mod ReplyOf
 pub mod Says

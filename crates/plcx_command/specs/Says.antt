@@ -4,11 +4,7 @@ use Rattle.plcx_io.specs.Told.{Tells}
 use Rattle.plcx_words.specs.Command.{Command, check, compile, simulate, run, bench}
 use Rattle.plcx_command.specs.Answer.{Answer, output, ok_answer, usage_answer, not_built_answer, read_answer, broken_answer}
 use Rattle.plcx_command.specs.FirstForm.{IsCompiled}
-use Rattle.plcx_command.specs.Verdict.{Place, IsVerdict, Accepted, NotBuilt, Broken}
-
--- the bytes that a file may have
-abbrev pub limit : ℕ
-limit = 16777216
+use Rattle.plcx_command.specs.Verdict.{Verdict, IsVerdict, Accepted, NotBuilt, Broken, at_byte, limit}
 
 -- What the read of a file comes to: a fault of its name, a file that is too long, or its bytes and what follows on them.
 pub data AfterRead (told : Option (List ℕ)) (rose : Type 0) (name : List ℕ) (long : Answer) (next : List ℕ → Answer → Type 0) (a : Answer) : Type 0 where
@@ -16,17 +12,27 @@ pub data AfterRead (told : Option (List ℕ)) (rose : Type 0) (name : List ℕ) 
   too_long : IfSome told (λ bytes. limit < length bytes) → a ≡ long → AfterRead told rose name long next a
   whole : (bytes : List ℕ) → length bytes ≤ limit → Tells told bytes → next bytes a → AfterRead told rose name long next a
 
--- What the verdict on bytes comes to: they are accepted, and what follows, or a rule is broken, or they are not built.
-pub data Judged (bytes : List ℕ) (next : Answer → Type 0) (a : Answer) : Type 0 where
-  accepted : IsVerdict bytes Accepted → next a → Judged bytes next a
-  broken : (rule : ℕ) (place : Place) → IsVerdict bytes (Broken rule place) → a ≡ broken_answer rule place → Judged bytes next a
-  not_built : IsVerdict bytes NotBuilt → a ≡ not_built_answer → Judged bytes next a
+-- what is answered to a verdict: what follows on a file that is accepted, or its refusal
+abbrev pub Answers : (Answer → Type 0) → Verdict → Answer → Type 0
+Answers next Accepted a = next a
+Answers next NotBuilt a = a ≡ not_built_answer
+Answers next (Broken b) a = a ≡ broken_answer b
+
+-- What the verdict on bytes comes to.
+pub record Judged (bytes : List ℕ) (next : Answer → Type 0) (a : Answer) : Type 0 where
+  pub verdict : Verdict
+  pub judged : IsVerdict bytes verdict
+  pub answers : Answers next verdict a
 
 -- the answer is a text of the file
 pub record IsText (bytes : List ℕ) (a : Answer) : Type 0 where
   pub text : List ℕ
   pub compiled : IsCompiled bytes text
   pub answer : a ≡ output text
+
+-- the answer to a file that is longer than a file may be
+abbrev pub long_answer : Answer
+long_answer = broken_answer (at_byte 7 limit)
 
 -- the answer to a file that is only judged
 abbrev pub IsAccepting : Answer → Type 0
@@ -40,8 +46,8 @@ compiled bytes a = Judged bytes (IsText bytes) a
 
 -- what a command answers, where the desk tells these files and these names' counts rose
 abbrev pub SaysTo : (List ℕ → Option (List ℕ)) → (List ℕ → Type 0) → Command → Answer → Type 0
-SaysTo told rose (check name) a = AfterRead (told name) (rose name) name not_built_answer checked a
-SaysTo told rose (compile name) a = AfterRead (told name) (rose name) name not_built_answer compiled a
+SaysTo told rose (check name) a = AfterRead (told name) (rose name) name long_answer checked a
+SaysTo told rose (compile name) a = AfterRead (told name) (rose name) name long_answer compiled a
 SaysTo told rose (simulate r) a = a ≡ not_built_answer
 SaysTo told rose (run r) a = a ≡ not_built_answer
 SaysTo told rose (bench n) a = a ≡ not_built_answer

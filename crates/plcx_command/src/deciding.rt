@@ -3,14 +3,16 @@ ghost use Rattle.std.specs.Prelude.{◌≡◌, IfOk};
 ghost use Rattle.plcx_io.specs.Counts.{Rose};
 ghost use Rattle.plcx_words.specs.Command as words;
 ghost use Rattle.plcx_words.specs.Says.{said_by};
-ghost use Rattle.plcx_command.specs.Answer.{usage_answer, not_built_answer, read_answer};
-ghost use Rattle.plcx_command.specs.Says.{Says, SaysTo, AfterRead, checked, compiled};
+ghost use Rattle.plcx_command.specs.Answer.{usage_answer, not_built_answer, read_answer, broken_answer};
+ghost use Rattle.plcx_command.specs.Says.{Says, SaysTo, AfterRead, checked, compiled, long_answer};
 ghost use Rattle.plcx_command.specs.ReplyOf.{answer_of};
 
-use crate::compiling::{accept, text_of};
+use crate::judging::{Judgement, at_byte, judge, text_of};
+use crate::line::broken_line;
 use crate::reply::Reply;
 use crate::status::Refused;
 use plcx_io::{Desk, LoadError, load};
+use plcx_model::Broken;
 use plcx_types::NoMemory;
 use plcx_words::{Command, Words, WordsError, command_of};
 use std::alloc::Global;
@@ -41,13 +43,21 @@ fn read_fault(alloc: Global, name: &str) -> Result<Reply, NoMemory>
     Ok(Reply::Refusal(Refused::ReadFault, line))
 }
 
+fn broken(alloc: Global, broken: &Broken) -> Result<Reply, NoMemory>
+    ensures { IfOk result (λ reply. answer_of reply ≡ broken_answer broken.now) }
+{
+    let line = broken_line(alloc, broken)?;
+    Ok(Reply::Refusal(Refused::Broken, line))
+}
+
 /// What a file gives that is only judged.
 fn checked(alloc: Global, bytes: &[u8]) -> Result<Reply, NoMemory>
     ensures { IfOk result (λ reply. checked bytes.now (answer_of reply)) }
 {
-    match accept(alloc, bytes)? {
-        Some(_) => Ok(Reply::Output(b"ok\n".to_vec(alloc)?)),
-        None => not_built(alloc),
+    match judge(alloc, bytes)? {
+        Judgement::Accepted(_) => Ok(Reply::Output(b"ok\n".to_vec(alloc)?)),
+        Judgement::NotBuilt => not_built(alloc),
+        Judgement::Broken(found) => broken(alloc, &found),
     }
 }
 
@@ -55,22 +65,30 @@ fn checked(alloc: Global, bytes: &[u8]) -> Result<Reply, NoMemory>
 fn compiled(alloc: Global, bytes: &[u8]) -> Result<Reply, NoMemory>
     ensures { IfOk result (λ reply. compiled bytes.now (answer_of reply)) }
 {
-    match accept(alloc, bytes)? {
-        Some(accepted) => Ok(Reply::Output(text_of(alloc, &accepted)?)),
-        None => not_built(alloc),
+    match judge(alloc, bytes)? {
+        Judgement::Accepted(accepted) => Ok(Reply::Output(text_of(alloc, &accepted)?)),
+        Judgement::NotBuilt => not_built(alloc),
+        Judgement::Broken(found) => broken(alloc, &found),
     }
+}
+
+/// What a file gives that is longer than a file may be.
+fn too_long(alloc: Global) -> Result<Reply, NoMemory>
+    ensures { IfOk result (λ reply. answer_of reply ≡ long_answer) }
+{
+    broken(alloc, &at_byte(7, LIMIT))
 }
 
 /// Reads the file and judges it.
 fn check_file<D: Desk>(alloc: Global, desk: &mut D, name: &str) -> Result<Reply, NoMemory>
     ensures { IfOk result (λ reply. AfterRead (D.file desk.old name.now)
         (Rose (D.faults desk.old name.now) (D.faults desk.new name.now))
-        name.now not_built_answer checked (answer_of reply)) }
+        name.now long_answer checked (answer_of reply)) }
 {
     match load(alloc, desk, name, LIMIT) {
         Ok(bytes) => checked(alloc, &bytes),
         Err(LoadError::Read) => read_fault(alloc, name),
-        Err(LoadError::TooLong { limit: _ }) => not_built(alloc),
+        Err(LoadError::TooLong { limit: _ }) => too_long(alloc),
         Err(LoadError::NoMemory) => Err(NoMemory),
     }
 }
@@ -79,12 +97,12 @@ fn check_file<D: Desk>(alloc: Global, desk: &mut D, name: &str) -> Result<Reply,
 fn compile_file<D: Desk>(alloc: Global, desk: &mut D, name: &str) -> Result<Reply, NoMemory>
     ensures { IfOk result (λ reply. AfterRead (D.file desk.old name.now)
         (Rose (D.faults desk.old name.now) (D.faults desk.new name.now))
-        name.now not_built_answer compiled (answer_of reply)) }
+        name.now long_answer compiled (answer_of reply)) }
 {
     match load(alloc, desk, name, LIMIT) {
         Ok(bytes) => compiled(alloc, &bytes),
         Err(LoadError::Read) => read_fault(alloc, name),
-        Err(LoadError::TooLong { limit: _ }) => not_built(alloc),
+        Err(LoadError::TooLong { limit: _ }) => too_long(alloc),
         Err(LoadError::NoMemory) => Err(NoMemory),
     }
 }

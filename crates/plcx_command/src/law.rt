@@ -1,9 +1,20 @@
-//! A law of the definitions that the top call's clauses cite.
+//! Laws of the definitions that the top call's clauses cite.
 ghost use Rattle.std.specs.Prelude.{◌≡◌, ℕ, List};
 ghost use Rattle.plcx_command.specs.FirstForm.{IsCompiled};
+ghost use Rattle.plcx_command.specs.Verdict.{Verdict, FileVerdict};
 
 use plcx_first_order::one_plan;
-use plcx_xml::one_tree;
+use plcx_profile::one_profile_verdict;
+use plcx_xml::{one_fault, one_tree};
+
+/// A file has one verdict.
+pub fn one_verdict()
+    ensures { (bytes : List ℕ) (v w : Verdict) → FileVerdict bytes v → FileVerdict bytes w → v ≡ w }
+{
+    one_tree();
+    one_fault();
+    one_profile_verdict();
+}
 
 /// A file has one text at most.
 pub fn one_text()

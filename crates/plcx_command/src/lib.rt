@@ -4,15 +4,16 @@
 //! when and what each sink got, and that the text of a diagram, read back, does what the diagram does.
 #![tactic(auto)]
 
-mod compiling;
 mod deciding;
 mod finishing;
+mod judging;
 mod law;
+mod line;
 mod reply;
 mod status;
 mod top;
 
-pub use law::one_text;
+pub use law::{one_text, one_verdict};
 pub use plcx_words::Words;
 pub use status::Status;
 pub use top::plcx;

@@ -2,10 +2,11 @@
 ghost use Rattle.plcx_io.specs.Counts.{Rose};
 ghost use Rattle.plcx_words.specs.Command.{command_of};
 ghost use Rattle.plcx_command.specs.Ends.{Ends, change};
-ghost use Rattle.plcx_command.specs.Headline.{ChecksExactly, CompilesExactly, RefusesUsage, RefusesNotBuilt, BlamesReads, BlamesWrites, TellsMemory, IsComplete};
+ghost use Rattle.plcx_command.specs.Headline.{ChecksExactly, CompilesExactly, RefusesUsage, RefusesBroken, RefusesNotBuilt, BlamesReads, BlamesWrites, TellsMemory, IsComplete};
 
 use crate::deciding::decide;
 use crate::finishing::{put, refuse};
+use crate::law::one_verdict;
 use crate::reply::Reply;
 use crate::status::{Refused, Status};
 use plcx_io::{Desk, Sink};
@@ -61,6 +62,10 @@ pub fn plcx<D: Desk, O: Sink, E: Sink>(
         (change (O.written out.old) (O.written out.new) (O.faults out.old) (O.faults out.new))
         (change (E.written err.old) (E.written err.new) (E.faults err.old) (E.faults err.new)) }
 
+    ensures broken { RefusesBroken (D.file desk.old) (command_of words.now) result
+        (change (O.written out.old) (O.written out.new) (O.faults out.old) (O.faults out.new))
+        (change (E.written err.old) (E.written err.new) (E.faults err.old) (E.faults err.new)) }
+
     ensures not_built { RefusesNotBuilt (D.file desk.old) (command_of words.now) result
         (change (O.written out.old) (O.written out.new) (O.faults out.old) (O.faults out.new))
         (change (E.written err.old) (E.written err.new) (E.faults err.old) (E.faults err.new)) }
@@ -79,5 +84,6 @@ pub fn plcx<D: Desk, O: Sink, E: Sink>(
         (change (O.written out.old) (O.written out.new) (O.faults out.old) (O.faults out.new))
         (change (E.written err.old) (E.written err.new) (E.faults err.old) (E.faults err.new)) }
 {
+    one_verdict();
     run(alloc, words, desk, out, err)
 }

@@ -1,8 +1,19 @@
-use Rattle.plcx_command.proofs.Laws.{blames_reads, refuses_not_built}
+use Rattle.plcx_command.proofs.Laws.{blames_reads, blames_writes, checks_exactly, compiles_exactly, is_complete, refuses_broken, refuses_not_built, refuses_usage, tells_memory}
 use Rattle.plcx_command.proofs.top.plcx.Goals as goal
 
-pub returns-clause-not_built : goal.returns-clause-not_built
-returns-clause-not_built g c = refuses_not_built _ _ _ _ _ _ c.run.ensures.ends
-
-pub returns-clause-read_fault : goal.returns-clause-read_fault
-returns-clause-read_fault g c = blames_reads _ _ _ _ _ _ c.run.ensures.ends
+pub returns : goal.returns
+returns g c =
+    let one = c.one_verdict.ensures in
+    let ends = c.run.ensures.ends in
+    record {
+      ends = ends;
+      compiles = compiles_exactly one _ _ _ _ _ _ ends;
+      checks = checks_exactly one _ _ _ _ _ _ ends;
+      complete = is_complete one _ _ _ _ _ _ ends;
+      usage = refuses_usage one _ _ _ _ _ _ ends;
+      broken = refuses_broken one _ _ _ _ _ _ ends;
+      not_built = refuses_not_built one _ _ _ _ _ _ ends;
+      read_fault = blames_reads one _ _ _ _ _ _ ends;
+      write_fault = blames_writes one _ _ _ _ _ _ ends;
+      no_memory = tells_memory one _ _ _ _ _ _ ends;
+    }

@@ -1,0 +1,69 @@
+-- A file has one verdict.
+use Rattle.std.proofs.Common.{◌≡◌, ◌≢◌, ◌≤◌, ◌<◌, ℕ, List, refl, sym, ap, ◌∙◌, subst, length, Option, Some, None, arith}
+use Rattle.plcx_xml.specs.Faults.{Fails}
+use Rattle.plcx_xml.specs.StandsForTree.{IsTreeOf}
+use Rattle.plcx_xml.specs.declared.error.XmlError.{XmlError}
+use Rattle.plcx_xml.specs.declared.error.XmlError.TheVariants as xml
+use Rattle.plcx_xml.specs.declared.tree.Element.{Element}
+use Rattle.plcx_model.specs.declared.broken.Broken as model
+use Rattle.plcx_model.specs.declared.project.Project as model'
+use Rattle.plcx_profile.specs.Profile.{IsBroken, ProfileVerdict, project_in}
+use Rattle.plcx_command.specs.FirstForm.{IsFirst}
+use Rattle.plcx_command.specs.Verdict.{Verdict, Accepted, NotBuilt, Broken, IsVerdict, InTree, InProfile, InOtherForm, InForm, FileVerdict, TooLong, Within, tree_rule, limit}
+
+-- a fault that is a rule is no want of memory
+no-memory : (e : XmlError) (b : model.Broken) → tree_rule e ≡ Some b → e ≢ xml.NoMemory
+no-memory (xml.NotUtf8 at) b h = λ e. cc
+no-memory (xml.Token at) b h = λ e. cc
+no-memory (xml.Nesting at) b h = λ e. cc
+no-memory (xml.TooDeep at) b h = λ e. cc
+no-memory xml.NoMemory b h = absurd (cc)
+
+module _
+    (one_fault : (bytes : List ℕ) (e f : XmlError) → e ≢ xml.NoMemory → f ≢ xml.NoMemory → Fails bytes e → Fails bytes f → e ≡ f)
+    (no_fault : (bytes : List ℕ) (e : XmlError) (root : Element) → e ≢ xml.NoMemory → Fails bytes e → IsTreeOf bytes root → ⊥)
+    (one_root : (bytes : List ℕ) (a b : Element) → IsTreeOf bytes a → IsTreeOf bytes b → a ≡ b)
+    (one_profile : (root : Element) (v w : Option (ℕ × ℕ)) → ProfileVerdict root v → ProfileVerdict root w → v ≡ w)
+  where
+    same-broken : (root : Element) (b c : model.Broken) → IsBroken root b → IsBroken root c → b ≡ c
+    same-broken root b c (n, at, h) (m, at', k) =
+        let same = one_profile root (Some (b.rule.0, n)) (Some (c.rule.0, m)) h k in
+        cc
+
+    no-broken : (root : Element) (b : model.Broken) → IsBroken root b → ProfileVerdict root None → ⊥
+    no-broken root b (n, at, h) none = let same = one_profile root (Some (b.rule.0, n)) None h none in cc
+
+    same-verdict : (bytes : List ℕ) (v w : Verdict) → IsVerdict bytes v → IsVerdict bytes w → v ≡ w
+    same-verdict bytes v w (InTree {e} {b} f r) (InTree {e'} {c} f' r') =
+        let same : e ≡ e' = one_fault bytes e e' (no-memory e b r) (no-memory e' c r') f f' in
+        let rules : Some b ≡ Some c = sym r ∙ ap tree_rule same ∙ r' in
+        cc
+    same-verdict bytes v w (InTree {e} {b} f r) (InProfile {root} t h) = absurd (no_fault bytes e root (no-memory e b r) f t)
+    same-verdict bytes v w (InTree {e} {b} f r) (InOtherForm {root} t h n) = absurd (no_fault bytes e root (no-memory e b r) f t)
+    same-verdict bytes v w (InTree {e} {b} f r) (InForm {root} t h n) = absurd (no_fault bytes e root (no-memory e b r) f t)
+    same-verdict bytes v w (InProfile {root} t h) (InTree {e} {b} f r) = absurd (no_fault bytes e root (no-memory e b r) f t)
+    same-verdict bytes v w (InOtherForm {root} t h n) (InTree {e} {b} f r) = absurd (no_fault bytes e root (no-memory e b r) f t)
+    same-verdict bytes v w (InForm {root} t h n) (InTree {e} {b} f r) = absurd (no_fault bytes e root (no-memory e b r) f t)
+    same-verdict bytes v w (InProfile {root} {b} t h) (InProfile {root'} {c} t' h') =
+        let same : root ≡ root' = one_root bytes root root' t t' in
+        ap Broken (same-broken root' b c (subst (λ (r : Element). IsBroken r b) same h) h')
+    same-verdict bytes v w (InProfile {root} {b} t h) (InOtherForm {root'} t' h' n) =
+        absurd (no-broken root' b (subst (λ (r : Element). IsBroken r b) (one_root bytes root root' t t') h) h')
+    same-verdict bytes v w (InProfile {root} {b} t h) (InForm {root'} t' h' n) =
+        absurd (no-broken root' b (subst (λ (r : Element). IsBroken r b) (one_root bytes root root' t t') h) h')
+    same-verdict bytes v w (InOtherForm {root'} t' h' n) (InProfile {root} {b} t h) =
+        absurd (no-broken root' b (subst (λ (r : Element). IsBroken r b) (one_root bytes root root' t t') h) h')
+    same-verdict bytes v w (InForm {root'} t' h' n) (InProfile {root} {b} t h) =
+        absurd (no-broken root' b (subst (λ (r : Element). IsBroken r b) (one_root bytes root root' t t') h) h')
+    same-verdict bytes v w (InOtherForm t h n) (InOtherForm t' h' n') = refl
+    same-verdict bytes v w (InForm t h n) (InForm t' h' n') = refl
+    same-verdict bytes v w (InOtherForm {root} t h none) (InForm {root'} t' h' first) =
+        absurd (none (subst (λ (r : Element). IsFirst (project_in r)) (one_root bytes root' root t' t) first))
+    same-verdict bytes v w (InForm {root'} t' h' first) (InOtherForm {root} t h none) =
+        absurd (none (subst (λ (r : Element). IsFirst (project_in r)) (one_root bytes root' root t' t) first))
+
+    pub same-file : (bytes : List ℕ) (v w : Verdict) → FileVerdict bytes v → FileVerdict bytes w → v ≡ w
+    same-file bytes v w (TooLong l) (TooLong l') = refl
+    same-file bytes v w (TooLong l) (Within k h) = absurd (omega arith)
+    same-file bytes v w (Within k h) (TooLong l) = absurd (omega arith)
+    same-file bytes v w (Within k h) (Within k' h') = same-verdict bytes v w h h'

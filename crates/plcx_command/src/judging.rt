@@ -1,0 +1,128 @@
+//! The verdict on a file, and the text of one that is accepted.
+ghost use Rattle.std.specs.Prelude.{◌≡◌, IfOk, MatchResult};
+ghost use Rattle.plcx_meaning.specs.Base.{Each};
+ghost use Rattle.plcx_xml.specs.StandsForTree.{IsTreeOf};
+ghost use Rattle.plcx_first_model.specs.Sound.{IsSound};
+ghost use Rattle.plcx_first_order.specs.Planned.{IsPlanned};
+ghost use Rattle.plcx_command.specs.FirstForm.{IsTextOf};
+ghost use Rattle.plcx_command.specs.JudgementOf.{IsJudgement, IsJudgementOfTree};
+
+use plcx_first_form::{FormError, first_form, sound_forms};
+use plcx_first_model::{Plan, Project, diagrams_fit};
+use plcx_first_order::{PlanError, plan};
+use plcx_jump::compile;
+use plcx_meaning::{same_behavior, texts_are_ready};
+use plcx_model::{Broken, Place, Rule};
+use plcx_profile::{ProfileError, project_of};
+use plcx_read::one_unit;
+use plcx_st::{print, read_again, texts_are_in_range};
+use plcx_types::NoMemory;
+use plcx_xml::{Node, XmlError, read_tree};
+use std::alloc::Global;
+
+/// A project that is accepted, with the order of its evaluation.
+#[derive(Drop)]
+pub struct Accepted {
+    pub project: Project,
+    pub plan: Plan,
+}
+
+/// The verdict on a file.
+#[derive(Drop)]
+pub enum Judgement {
+    Accepted(Accepted),
+    /// No rule is broken, as far as rules are tested by now, and the file has not the form that is compiled.
+    NotBuilt,
+    Broken(Broken),
+}
+
+/// A rule that is broken at a byte of the file.
+pub fn at_byte(rule: u8, byte: u64) -> Broken
+    ensures { result ≡ at_byte rule byte }
+{
+    Broken {
+        rule: Rule(rule),
+        place: Place::Byte(byte),
+    }
+}
+
+ghost use Rattle.plcx_command.specs.Verdict.{at_byte};
+
+fn of_tree(fault: XmlError) -> Result<Judgement, NoMemory>
+    ensures { IfOk result (λ j. IsFault fault j) }
+{
+    match fault {
+        XmlError::NotUtf8 { at } => Ok(Judgement::Broken(at_byte(1, at))),
+        XmlError::Token { at } => Ok(Judgement::Broken(at_byte(2, at))),
+        XmlError::Nesting { at } => Ok(Judgement::Broken(at_byte(3, at))),
+        XmlError::TooDeep { at } => Ok(Judgement::Broken(at_byte(7, at))),
+        XmlError::NoMemory => Err(NoMemory),
+    }
+}
+
+ghost use Rattle.plcx_command.specs.JudgementOf.{IsFault};
+
+/// The verdict on a project that breaks no rule by now.
+fn of_project(alloc: Global, project: &plcx_model::Project) -> Result<Judgement, NoMemory>
+    ensures { IfOk result (λ j. IsJudgementOfProject project.now j) }
+{
+    sound_forms();
+    let first = match first_form(alloc, project) {
+        Ok(first) => first,
+        Err(FormError::NotBuilt) => return Ok(Judgement::NotBuilt),
+        Err(FormError::NoMemory) => return Err(NoMemory),
+    };
+    match plan(alloc, &first) {
+        Ok(plan) => Ok(Judgement::Accepted(Accepted {
+            project: first,
+            plan,
+        })),
+        Err(PlanError::NotBuilt) => Ok(Judgement::NotBuilt),
+        Err(PlanError::NoMemory) => Err(NoMemory),
+    }
+}
+
+ghost use Rattle.plcx_command.specs.JudgementOf.{IsJudgementOfProject};
+
+fn of_root(alloc: Global, root: &Node) -> Result<Judgement, NoMemory>
+    requires { IsElement (out-Node root.now) }
+    ensures { IfOk result (λ j. IsJudgementOfTree (out-Node root.now) j) }
+{
+    match project_of(alloc, root) {
+        Ok(project) => of_project(alloc, &project),
+        Err(ProfileError::Broken(broken)) => Ok(Judgement::Broken(broken)),
+        Err(ProfileError::NoMemory) => Err(NoMemory),
+    }
+}
+
+ghost use Rattle.plcx_xml.specs.declared.tree.Node.{out-Node};
+ghost use Rattle.plcx_profile.specs.Profile.{IsElement};
+
+/// The verdict on the bytes of a file, which are no more than a file may have.
+pub fn judge(alloc: Global, bytes: &[u8]) -> Result<Judgement, NoMemory>
+    ensures { IfOk result (λ j. IsJudgement bytes.now j) }
+{
+    match read_tree(alloc, bytes) {
+        Ok(root) => of_root(alloc, &root),
+        Err(fault) => of_tree(fault),
+    }
+}
+
+/// The text of a project's one body, whose networks stand in the plan.
+pub fn text_of(alloc: Global, accepted: &Accepted) -> Result<Vec<u8>, NoMemory>
+    requires planned { IsPlanned accepted.now.project accepted.now.plan }
+    requires sound { Each IsSound accepted.now.project.pous }
+    ensures { IfOk result (λ text. IsTextOf accepted.now.project text.items) }
+{
+    diagrams_fit();
+    texts_are_in_range();
+    texts_are_ready();
+    same_behavior();
+    one_unit();
+    read_again();
+    let [pou] = accepted.project.pous.as_slice() else {
+        unreachable!()
+    };
+    let unit = compile(alloc, pou, &accepted.plan)?;
+    print(alloc, &unit)
+}
