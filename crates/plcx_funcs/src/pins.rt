@@ -144,7 +144,9 @@ impl FuncPins {
         ensures number { result.name.number ≡ input_number self.now.func i }
         ensures class { result.class ≡ input_class self.now.func i }
     {
-        let inputs = row(self.func).inputs;
+        let FuncPins { func, inputs: count, .. } = *self;
+        prove!(i < count);
+        let inputs = row(func).inputs;
         Pin0 {
             name: PinName {
                 letters: letters(inputs, i),
