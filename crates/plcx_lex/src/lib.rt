@@ -18,6 +18,3 @@ pub use error::TextError;
 pub use law::one_list;
 pub use number::number_of;
 pub use token::{TextToken, TokenKind};
-
-#[cfg(test)]
-mod tests;

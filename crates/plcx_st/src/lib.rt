@@ -15,6 +15,3 @@ pub use tree::{
     Arg, Arm, Decl, Expr, Mark, Number, Op, PouText, Stmt, TextBlock, TextClass, TextKind, Unit,
     Word,
 };
-
-#[cfg(test)]
-mod tests;

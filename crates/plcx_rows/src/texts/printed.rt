@@ -1,5 +1,5 @@
-use crate::printed::read_printed;
-use crate::text::read;
+//! What is printed of texts that were read.
+use plcx_read::{read, read_printed};
 use plcx_st::{Unit, print};
 use sqlite_items::Items;
 use std::alloc::Global;

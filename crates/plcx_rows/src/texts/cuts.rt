@@ -1,4 +1,5 @@
-use super::*;
+//! Texts and the tokens that they are cut into.
+use plcx_lex::{TextError, TokenKind, number_of, tokens};
 use plcx_types::Ty;
 use std::alloc::Global;
 use std::test::Fail;
