@@ -17,7 +17,7 @@ use Rattle.plcx_types.proofs.Literals.{truth_is}
 use Rattle.plcx_lex.specs.Number as number
 use Rattle.plcx_lex.specs.Number.{IsTyped, IsLiteral}
 use Rattle.plcx_lex.specs.ReadNumber.{named, first_named}
-use Rattle.plcx_lex.specs.Lexis.{is_truth, is_decimal, is_one_of, signs, IsAddress, IsToken}
+use Rattle.plcx_lex.specs.Lexis.{is_truth, is_decimal, is_one_of, sign_texts, IsAddress, IsToken}
 use Rattle.plcx_lex.specs.declared.token.TokenKind.{TokenKind}
 use Rattle.plcx_lex.specs.declared.token.TokenKind.TheVariants as kind
 use Rattle.plcx_lex.specs.Scan.{Typed, Sign}
@@ -153,7 +153,7 @@ address_start text is =
 
 sign_start : (text : List ℕ) → Sign text → Starts kind.Sign text
 sign_start [] is = absurd (cc)
-sign_start (b ∷ bs) is = record { some = omega arith; first = listed (λ t. is_one_of (codes ":;,.()+-*/=<>") (get_or t 0 0)) signs (b ∷ bs) refl is }
+sign_start (b ∷ bs) is = record { some = omega arith; first = listed (λ t. is_one_of (codes ":;,.()+-*/=<>") (get_or t 0 0)) sign_texts (b ∷ bs) refl is }
 
 pub token_starts : (k : TokenKind) (text : List ℕ) → IsToken k text → Starts k text
 token_starts kind.Keyword text is = starts_word kind.Keyword text (λ b h. h) (identifier_letter text (keyword_word text is.0))

@@ -1,5 +1,5 @@
 -- How a text is cut into tokens and what parts them.
-use Rattle.std.specs.Prelude.{◌≡◌, ◌⊎◌, ◌+◌, ◌-◌, ◌<◌, ◌≤◌, ◌||◌, ℕ, suc, ℤ, Bool, true, false, nat_eq, List, [], ◌∷◌, ◌++◌, length, take, drop, slice_index, Option, Some, None, codes}
+use Rattle.std.specs.Prelude.{◌≡◌, ◌⊎◌, ◌+◌, ◌-◌, ◌<◌, ◌≤◌, ◌||◌, ℕ, suc, ℤ, Bool, true, false, nat_eq, List, [], ◌∷◌, ◌++◌, length, take, drop, map, slice_index, Option, Some, None, codes}
 use Rattle.std.specs.List.{list_all, list_any}
 use Rattle.std.specs.Str.{bytes_eq}
 use Rattle.plcx_types.specs.Name.{is_between, is_identifier, folded}
@@ -7,6 +7,7 @@ use Rattle.plcx_types.specs.Reserved.{is_keyword}
 use Rattle.plcx_types.specs.Duration.{AreDigits}
 use Rattle.plcx_types.specs.declared.ty.Ty.{Ty}
 use Rattle.plcx_lex.specs.Number.{IsLiteral}
+use Rattle.plcx_lex.specs.Terminal.{signs, kind_of}
 use Rattle.plcx_lex.specs.Token.{Token}
 use Rattle.plcx_lex.specs.declared.token.TextToken.{TextToken}
 use Rattle.plcx_lex.specs.declared.token.TokenKind.{TokenKind}
@@ -35,9 +36,9 @@ pub data IsAddress : List ℕ → Type 0 where
   sized : {area size : ℕ} {places : List ℕ} → is_one_of (codes "iqm") area ≡ true → is_one_of (codes "xbwdl") size ≡ true → ArePlaces 8 places
       → IsAddress (codes "%" ++ area ∷ size ∷ places)
 
-abbrev pub signs : List (List ℕ)
-signs = codes ":=" ∷ codes ":" ∷ codes ";" ∷ codes "," ∷ codes "." ∷ codes "(" ∷ codes ")" ∷ codes "+" ∷ codes "-" ∷ codes "*" ∷ codes "/"
-    ∷ codes "=" ∷ codes "<>" ∷ codes "<" ∷ codes ">" ∷ codes "<=" ∷ codes ">=" ∷ []
+-- the texts of the signs
+abbrev pub sign_texts : List (List ℕ)
+sign_texts = map (λ e. e.0) signs
 
 -- a text that is one token of the kind
 abbrev pub IsToken : TokenKind → List ℕ → Type 0
@@ -46,7 +47,7 @@ IsToken kind.Name text = (is_identifier text ≡ true) × (is_keyword text ≡ f
 IsToken kind.Number text = (t : Ty) × (n : ℤ) × IsLiteral text t n
 IsToken kind.Digits text = (list_all is_decimal text ≡ true) × (0 < length text)
 IsToken kind.Address text = IsAddress (folded text)
-IsToken kind.Sign text = list_any (bytes_eq text) signs ≡ true
+IsToken kind.Sign text = list_any (bytes_eq text) sign_texts ≡ true
 
 -- ---- the pieces of a text
 
@@ -128,7 +129,7 @@ AreTokens bytes ts = (ps : List Piece) × IsMade bytes ps × (ts ≡ tokens_from
 
 -- a token of a source, with its text
 abbrev pub spelt : List ℕ → TextToken → Token
-spelt source t = record { kind = t.kind; text = take (t.span.end - t.span.start) (drop t.span.start source); span = t.span }
+spelt source t = record { kind = kind_of t.terminal; text = take (t.span.end - t.span.start) (drop t.span.start source); span = t.span }
 
 -- ---- the place
 

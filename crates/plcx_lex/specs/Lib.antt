@@ -1,4 +1,5 @@
 pub mod Token
+pub mod Terminal
 pub mod Number
 pub mod ReadNumber
 pub mod Lexis

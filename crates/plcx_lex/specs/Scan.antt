@@ -1,12 +1,16 @@
 -- What the scanners of a text answer: the longest front that is of a form.
-use Rattle.std.specs.Prelude.{◌≡◌, ◌⊎◌, ◌<◌, ◌≤◌, ◌||◌, ◌&&◌, ℕ, ℤ, Bool, true, false, nat_eq, nat_le, List, [], ◌∷◌, ◌++◌, length, take, slice_index, Option, Some, None, if◌then◌else◌, codes}
+use Rattle.std.specs.Prelude.{◌≡◌, ◌⊎◌, ◌<◌, ◌≤◌, ◌||◌, ◌&&◌, ℕ, ℤ, Bool, true, false, nat_eq, nat_le, List, [], ◌∷◌, ◌++◌, length, take, slice_index, Option, Some, None, IfSome, if◌then◌else◌, codes}
 use Rattle.std.specs.List.{list_all}
+use Rattle.std.specs.Option.{option_map}
+use Rattle.std.specs.Str.{str_eq_ignore_ascii_case}
 use Rattle.plcx_types.specs.declared.ty.Ty.{Ty}
 use Rattle.plcx_types.specs.Name.{is_identifier, is_next_byte}
 use Rattle.plcx_types.specs.Numeral.{IsNumeral, IsWhole}
 use Rattle.plcx_types.specs.Literal.{IsTruth, IsNumber}
 use Rattle.plcx_lex.specs.ReadNumber.{named}
-use Rattle.plcx_lex.specs.Lexis.{is_decimal, is_one_of, IsToken, IsBlank, NoComment}
+use Rattle.plcx_lex.specs.Lexis.{is_decimal, is_one_of, IsToken, Longest, IsPiece, IsBlank, NoComment}
+use Rattle.plcx_lex.specs.Terminal.{Table, terminal_of, kind_of}
+use Rattle.plcx_lex.specs.declared.terminal.Terminal.{Terminal}
 use Rattle.plcx_lex.specs.declared.token.TextToken.{TextToken}
 use Rattle.plcx_lex.specs.declared.token.TokenKind.{TokenKind}
 use Rattle.plcx_lex.specs.declared.token.TokenKind.TheVariants as kind
@@ -92,7 +96,39 @@ Sign text = IsToken kind.Sign text
 abbrev pub AnyToken : List ℕ → Type 0
 AnyToken text = (k : TokenKind) × IsToken k text
 
+-- ---- what tokens are in the grammar
+
+-- what the table says of a word, where it has it
+unfoldable pub told : Table → List ℕ → Option Terminal
+told [] word = None
+told (e ∷ es) word = if str_eq_ignore_ascii_case word e.0 then Some e.1 else told es word
+
+-- a text is one token, which is this
+pub record IsTold (text : List ℕ) (t : Terminal) : Type 0 where
+  pub token : IsToken (kind_of t) text
+  pub terminal : t ≡ terminal_of (kind_of t) text
+
+-- the longest token at the front is this: n bytes
+pub record LongestTold (bytes : List ℕ) (t : Terminal) (n : ℕ) : Type 0 where
+  pub token : Longest bytes (kind_of t) n
+  pub terminal : t ≡ terminal_of (kind_of t) (take n bytes)
+
+-- a sign is this
+pub record IsSign (t : Terminal) (text : List ℕ) : Type 0 where
+  pub of_kind : kind_of t ≡ kind.Sign
+  pub terminal : t ≡ terminal_of kind.Sign text
+
+-- the longest sign at the front is this: n bytes
+pub record LongestSign (text : List ℕ) (t : Terminal) (n : ℕ) : Type 0 where
+  pub sign : LongestOf Sign text n
+  pub is : IsSign t (take n text)
+
 -- ---- pieces
+
+-- a piece with what it is in the grammar
+pub record PieceTold (bytes : List ℕ) (t : Option Terminal) (n : ℕ) : Type 0 where
+  pub piece : IsPiece bytes (option_map kind_of t) n
+  pub terminal : IfSome t (λ t. t ≡ terminal_of (kind_of t) (take n bytes))
 
 -- nothing that a text is made of stands at the front
 pub record NoPiece (bytes : List ℕ) : Type 0 where
@@ -101,6 +137,6 @@ pub record NoPiece (bytes : List ℕ) : Type 0 where
   pub no_token : NoneOf AnyToken bytes
 
 -- a piece as a token with its place, where it is one
-abbrev pub placed : Option TokenKind → ℕ → ℕ → List TextToken
+abbrev pub placed : Option Terminal → ℕ → ℕ → List TextToken
 placed None start end = []
-placed (Some k) start end = record { kind = k; span = record { start = start; end = end } } ∷ []
+placed (Some t) start end = record { terminal = t; span = record { start = start; end = end } } ∷ []

@@ -1,13 +1,13 @@
 //! How long the numbers at the front of a text are.
-ghost use Rattle.std.specs.Prelude.{◌≡◌, ◌<◌, ◌&&◌, ℤ, true, false, nat_eq, codes, IfSome, IfNone, MatchOption};
+ghost use Rattle.std.specs.Prelude.{◌≡◌, ◌<◌, ◌&&◌, ℤ, true, false, nat_eq, take, codes, IfSome, IfNone, MatchOption};
 ghost use Rattle.plcx_types.specs.Literal.{IsNumber};
 ghost use Rattle.plcx_lex.specs.Lexis.{is_decimal, is_one_of};
 ghost use Rattle.std.specs.Char.{to_ascii_lowercase};
 ghost use Rattle.plcx_types.specs.declared.ty.Ty.TheVariants as ty;
-ghost use Rattle.plcx_types.specs.Name.{folded};
+ghost use Rattle.plcx_types.specs.Name.{folded, is_next_byte};
 ghost use Rattle.plcx_types.specs.Numeral.{is_digit, digit_value};
 ghost use Rattle.plcx_types.specs.Reading.{behind, with_digit, GivesRest};
-ghost use Rattle.plcx_lex.specs.Scan.{longer, is_end, Finds, After, Numeral, Whole, Truth, Number, Typed};
+ghost use Rattle.plcx_lex.specs.Scan.{longer, is_end, IsRun, Finds, After, Numeral, Whole, Truth, Number, Typed};
 
 use crate::number::named;
 use crate::runs::{Class, front, run_len};
@@ -189,11 +189,11 @@ fn number_len(ty: Ty, text: &[u8]) -> Option<usize>
     }
 }
 
-/// How long the longest number with its type's name is.
-pub(crate) fn typed_len(text: &[u8]) -> Option<usize>
+/// How long the longest number with its type's name is. The word at the front has n bytes.
+pub(crate) fn typed_len(n: usize, text: &[u8]) -> Option<usize>
+    requires { IsRun is_next_byte (take 128 text.now) n }
     ensures { Finds Typed (folded text.now) result }
 {
-    let n = run_len(Class::Part, front(128, text));
     if n == text.len() || text[n] != b'#' {
         return None;
     }

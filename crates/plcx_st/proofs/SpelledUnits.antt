@@ -21,7 +21,7 @@ use Rattle.plcx_st.specs.declared.tree.TextKind.{TextKind}
 use Rattle.plcx_st.specs.declared.tree.TextKind.TheVariants as kinds
 use Rattle.plcx_st.specs.declared.tree.TextBlock.{TextBlock}
 use Rattle.plcx_st.specs.declared.tree.PouText.{PouText}
-use Rattle.plcx_st.specs.Terminal.{terminal_of}
+use Rattle.plcx_lex.specs.Terminal.{terminal_of}
 use Rattle.plcx_st.specs.Grammar as grammar
 use Rattle.plcx_st.specs.Grammar.{IsAddress, IsInitial, IsDecl, IsBareDecl, IsMark, IsBlock, IsPou, ArePous, AreStmts, marked_class, heading, ending}
 use Rattle.plcx_st.specs.Meant.{number_meant, stmt_meant, decl_meant, class_meant, mark_meant, block_meant, kind_meant, pou_meant}

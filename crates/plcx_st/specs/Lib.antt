@@ -1,4 +1,3 @@
-pub mod Terminal
 pub mod Grammar
 pub mod Place
 pub mod Meant

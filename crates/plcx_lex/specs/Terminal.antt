@@ -1,0 +1,76 @@
+-- What a token is in the grammar.
+use Rattle.std.specs.Prelude.{◌≡◌, ℕ, Bool, List, [], ◌∷◌, Option, Some, None, map, codes, if◌then◌else◌}
+use Rattle.std.specs.Str.{bytes_eq, str_eq_ignore_ascii_case}
+use Rattle.plcx_lex.specs.declared.token.TokenKind.{TokenKind}
+use Rattle.plcx_lex.specs.declared.token.TokenKind.TheVariants as kind
+use Rattle.plcx_lex.specs.declared.terminal.Terminal.{Terminal}
+use Rattle.plcx_lex.specs.declared.terminal.Terminal.TheVariants as t
+use Rattle.plcx_lex.specs.Token.{Token}
+
+-- texts, and what each is in the grammar
+abbrev pub Table : Type 0
+Table = List (List ℕ × Terminal)
+
+-- the keywords; the grammar has no use for some, and TRUE and FALSE are numbers
+abbrev pub words : Table
+words =
+    (codes "program", t.Program) ∷ (codes "end_program", t.EndProgram) ∷ (codes "function_block", t.FunctionBlock) ∷
+    (codes "end_function_block", t.EndFunctionBlock) ∷ (codes "function", t.Other) ∷ (codes "end_function", t.Other) ∷
+    (codes "var", t.Var) ∷ (codes "var_input", t.VarInput) ∷ (codes "var_output", t.VarOutput) ∷ (codes "var_in_out", t.VarInOut) ∷
+    (codes "var_temp", t.VarTemp) ∷ (codes "var_external", t.Other) ∷ (codes "var_global", t.Other) ∷ (codes "end_var", t.EndVar) ∷
+    (codes "constant", t.Constant) ∷ (codes "retain", t.Retain) ∷ (codes "at", t.At) ∷ (codes "if", t.If) ∷ (codes "then", t.Then) ∷
+    (codes "else", t.Other) ∷ (codes "elsif", t.Other) ∷ (codes "end_if", t.EndIf) ∷ (codes "while", t.While) ∷ (codes "do", t.Do) ∷
+    (codes "end_while", t.EndWhile) ∷ (codes "case", t.Case) ∷ (codes "of", t.Of) ∷ (codes "end_case", t.EndCase) ∷ (codes "for", t.Other) ∷
+    (codes "to", t.Other) ∷ (codes "by", t.Other) ∷ (codes "end_for", t.Other) ∷ (codes "repeat", t.Other) ∷ (codes "until", t.Other) ∷
+    (codes "end_repeat", t.Other) ∷ (codes "exit", t.Other) ∷ (codes "return", t.Other) ∷ (codes "and", t.And) ∷ (codes "or", t.Or) ∷
+    (codes "xor", t.Xor) ∷ (codes "not", t.Not) ∷ (codes "mod", t.Mod) ∷ (codes "true", t.Number) ∷ (codes "false", t.Number) ∷ []
+
+-- the signs
+abbrev pub signs : Table
+signs =
+    (codes ":=", t.Assign) ∷ (codes ":", t.Colon) ∷ (codes ";", t.Semicolon) ∷ (codes ",", t.Comma) ∷ (codes ".", t.Dot) ∷
+    (codes "(", t.Open) ∷ (codes ")", t.Close) ∷ (codes "+", t.Plus) ∷ (codes "-", t.Minus) ∷ (codes "*", t.Times) ∷ (codes "/", t.Divide) ∷
+    (codes "=", t.Equal) ∷ (codes "<>", t.NotEqual) ∷ (codes "<", t.Less) ∷ (codes ">", t.Greater) ∷ (codes "<=", t.LessOrEqual) ∷
+    (codes ">=", t.GreaterOrEqual) ∷ []
+
+-- what the table says of the text, by a test of texts
+abbrev pub found : (List ℕ → List ℕ → Bool) → Table → List ℕ → Terminal
+found test [] text = t.Other
+found test (e ∷ es) text = if test text e.0 then e.1 else found test es text
+
+-- words are told without the case of their letters
+abbrev pub terminal_of : TokenKind → List ℕ → Terminal
+terminal_of kind.Keyword text = found str_eq_ignore_ascii_case words text
+terminal_of kind.Sign text = found bytes_eq signs text
+terminal_of kind.Name text = t.Name
+terminal_of kind.Number text = t.Number
+terminal_of kind.Digits text = t.Digits
+terminal_of kind.Address text = t.Address
+
+unfoldable pub terminal : Token → Terminal
+terminal w = terminal_of w.kind w.text
+
+-- the kind of the tokens that are this
+abbrev pub kind_of : Terminal → TokenKind
+kind_of t.Name = kind.Name
+kind_of t.Number = kind.Number
+kind_of t.Digits = kind.Digits
+kind_of t.Address = kind.Address
+kind_of t.Assign = kind.Sign
+kind_of t.Colon = kind.Sign
+kind_of t.Semicolon = kind.Sign
+kind_of t.Comma = kind.Sign
+kind_of t.Dot = kind.Sign
+kind_of t.Open = kind.Sign
+kind_of t.Close = kind.Sign
+kind_of t.Plus = kind.Sign
+kind_of t.Minus = kind.Sign
+kind_of t.Times = kind.Sign
+kind_of t.Divide = kind.Sign
+kind_of t.Equal = kind.Sign
+kind_of t.NotEqual = kind.Sign
+kind_of t.Less = kind.Sign
+kind_of t.Greater = kind.Sign
+kind_of t.LessOrEqual = kind.Sign
+kind_of t.GreaterOrEqual = kind.Sign
+kind_of _ = kind.Keyword
