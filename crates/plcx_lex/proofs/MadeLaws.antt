@@ -54,7 +54,7 @@ cut_covered bytes (p ∷ ps) m covered le within =
     let later = cut_covered (drop p.1 bytes) ps (m - p.1) covered.1 (omega arith) (omega (arith, length-drop p.1 bytes)) in
     (cut_piece bytes p.0 p.1 m (omega arith) within covered.0, subst (λ (rest : List ℕ). Covers rest ps) (sym (cut_rest bytes p.1 m (omega arith))) later)
 
--- where nothing stands, no longer front is made of pieces
+-- where nothing stands, no longer prefix is made of pieces
 no_longer : (bytes : List ℕ) (ps qs : List Piece) (m : ℕ) → Covers bytes ps → NoPiece (drop (total ps) bytes) → total ps < m → m ≤ length bytes → Covers (take m bytes) qs → total qs ≡ m → ⊥
 no_longer bytes [] [] m covered none lt within made all = omega (arith, all)
 no_longer bytes [] (q ∷ qs) m covered none lt within made all = no_cut_piece bytes q.0 q.1 m within none made.0

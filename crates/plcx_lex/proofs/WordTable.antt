@@ -7,7 +7,7 @@ use Rattle.std.proofs.lemmas.Bool.{cases_Bool, and_parts}
 use Rattle.std.proofs.lemmas.Slice.Eq.{bytes_eq-Decides}
 use Rattle.plcx_types.specs.declared.ty.Ty.TheVariants as ty
 use Rattle.plcx_types.specs.Name.{folded, is_identifier}
-use Rattle.plcx_types.specs.Reserved.{is_keyword, is_in, keywords}
+use Rattle.plcx_types.specs.Reserved.{is_keyword, is_in}
 use Rattle.plcx_types.specs.Literal as form
 use Rattle.plcx_types.specs.Literal.{IsTruth}
 use Rattle.plcx_lex.specs.Number as number
@@ -19,9 +19,9 @@ use Rattle.plcx_lex.specs.declared.token.TokenKind.TheVariants as kind
 use Rattle.plcx_lex.specs.declared.terminal.Terminal.{Terminal}
 use Rattle.plcx_lex.specs.declared.terminal.Terminal.TheVariants as terminals
 
--- the words of the table are the keywords
-all_keywords : map (λ (e : List ℕ × Terminal). e.0) words ≡ keywords
-all_keywords = refl
+-- whatever the case of its letters, a word of the table is a keyword, and a keyword is in the table
+listed_keyword : (word : List ℕ) → is_in (map (λ (e : List ℕ × Terminal). e.0) words) word ≡ is_keyword word
+listed_keyword word = refl
 
 -- the kind of a word, by whether it is TRUE or FALSE
 abbrev suits : TokenKind → Bool → Bool
@@ -91,7 +91,7 @@ number_only _ is = absurd (cc)
 
 told_as : (k : TokenKind) (word : List ℕ) (t : Terminal) → kind_of t ≡ k → Row words word t → IsTold word t
 told_as kind.Keyword word t is row = record {
-  token = subst (λ (k : TokenKind). IsToken k word) (sym is) (row.listed, not_true (is_truth word) (ap (λ (k : TokenKind). suits k (is_truth word)) (sym is) ∙ row.suits));
+  token = subst (λ (k : TokenKind). IsToken k word) (sym is) (sym (listed_keyword word) ∙ row.listed, not_true (is_truth word) (ap (λ (k : TokenKind). suits k (is_truth word)) (sym is) ∙ row.suits));
   terminal = sym row.found ∙ ap (λ (k : TokenKind). terminal_of k word) (sym is);
 }
   where
@@ -113,5 +113,5 @@ told_word word t is = told_as (kind_of t) word t refl (told_row words word t all
 
 -- a word that is not in the table is a name
 pub untold_word : (word : List ℕ) → is_identifier word ≡ true → told words word ≡ None → IsTold word terminals.Name
-untold_word word form is = record { token = (form, untold words word is); terminal = refl }
+untold_word word form is = record { token = (form, sym (listed_keyword word) ∙ untold words word is); terminal = refl }
 

@@ -133,7 +133,7 @@ spelt source t = record { kind = kind_of t.terminal; text = take (t.span.end - t
 
 -- ---- the place
 
--- the end of the longest front that is made of pieces, where the whole is not
+-- the end of the longest prefix that is made of pieces, where the whole is not
 pub record IsLexPlace (bytes : List ℕ) (at : ℕ) : Type 0 where
   pub inside : at < length bytes
   pub pieces : List Piece

@@ -1,4 +1,4 @@
--- What the scanners of a text answer: the longest front that is of a form.
+-- What the scanners of a text answer: the longest prefix that is of a form.
 use Rattle.std.specs.Prelude.{◌≡◌, ◌⊎◌, ◌<◌, ◌≤◌, ◌||◌, ◌&&◌, ℕ, ℤ, Bool, true, false, nat_eq, nat_le, List, [], ◌∷◌, ◌++◌, length, take, slice_index, Option, Some, None, IfSome, if◌then◌else◌, codes}
 use Rattle.std.specs.List.{list_all}
 use Rattle.std.specs.Option.{option_map}
@@ -17,17 +17,17 @@ use Rattle.plcx_lex.specs.declared.token.TokenKind.TheVariants as kind
 use Rattle.plcx_lex.specs.declared.runs.Class.{Class}
 use Rattle.plcx_lex.specs.declared.runs.Class.TheVariants as class
 
--- the longest front of the form: n bytes
+-- the longest prefix of the form: n bytes
 pub record LongestOf (Form : List ℕ → Type 0) (text : List ℕ) (n : ℕ) : Type 0 where
   pub within : n ≤ length text
   pub holds : Form (take n text)
   pub longest : (m : ℕ) → n < m → m ≤ length text → Form (take m text) → ⊥
 
--- no front is of the form
+-- no prefix is of the form
 abbrev pub NoneOf : (List ℕ → Type 0) → List ℕ → Type 0
 NoneOf Form text = (m : ℕ) → m ≤ length text → Form (take m text) → ⊥
 
--- how long the longest front of the form is, where there is one
+-- how long the longest prefix of the form is, where there is one
 abbrev pub Finds : (List ℕ → Type 0) → List ℕ → Option ℕ → Type 0
 Finds Form text None = NoneOf Form text
 Finds Form text (Some n) = LongestOf Form text n

@@ -14,16 +14,16 @@ Table = List (List ℕ × Terminal)
 -- the keywords; the grammar has no use for some, and TRUE and FALSE are numbers
 abbrev pub words : Table
 words =
-    (codes "program", t.Program) ∷ (codes "end_program", t.EndProgram) ∷ (codes "function_block", t.FunctionBlock) ∷
-    (codes "end_function_block", t.EndFunctionBlock) ∷ (codes "function", t.Other) ∷ (codes "end_function", t.Other) ∷
-    (codes "var", t.Var) ∷ (codes "var_input", t.VarInput) ∷ (codes "var_output", t.VarOutput) ∷ (codes "var_in_out", t.VarInOut) ∷
-    (codes "var_temp", t.VarTemp) ∷ (codes "var_external", t.Other) ∷ (codes "var_global", t.Other) ∷ (codes "end_var", t.EndVar) ∷
-    (codes "constant", t.Constant) ∷ (codes "retain", t.Retain) ∷ (codes "at", t.At) ∷ (codes "if", t.If) ∷ (codes "then", t.Then) ∷
-    (codes "else", t.Other) ∷ (codes "elsif", t.Other) ∷ (codes "end_if", t.EndIf) ∷ (codes "while", t.While) ∷ (codes "do", t.Do) ∷
-    (codes "end_while", t.EndWhile) ∷ (codes "case", t.Case) ∷ (codes "of", t.Of) ∷ (codes "end_case", t.EndCase) ∷ (codes "for", t.Other) ∷
-    (codes "to", t.Other) ∷ (codes "by", t.Other) ∷ (codes "end_for", t.Other) ∷ (codes "repeat", t.Other) ∷ (codes "until", t.Other) ∷
-    (codes "end_repeat", t.Other) ∷ (codes "exit", t.Other) ∷ (codes "return", t.Other) ∷ (codes "and", t.And) ∷ (codes "or", t.Or) ∷
-    (codes "xor", t.Xor) ∷ (codes "not", t.Not) ∷ (codes "mod", t.Mod) ∷ (codes "true", t.Number) ∷ (codes "false", t.Number) ∷ []
+    (codes "PROGRAM", t.Program) ∷ (codes "END_PROGRAM", t.EndProgram) ∷ (codes "FUNCTION_BLOCK", t.FunctionBlock) ∷
+    (codes "END_FUNCTION_BLOCK", t.EndFunctionBlock) ∷ (codes "FUNCTION", t.Other) ∷ (codes "END_FUNCTION", t.Other) ∷
+    (codes "VAR", t.Var) ∷ (codes "VAR_INPUT", t.VarInput) ∷ (codes "VAR_OUTPUT", t.VarOutput) ∷ (codes "VAR_IN_OUT", t.VarInOut) ∷
+    (codes "VAR_TEMP", t.VarTemp) ∷ (codes "VAR_EXTERNAL", t.Other) ∷ (codes "VAR_GLOBAL", t.Other) ∷ (codes "END_VAR", t.EndVar) ∷
+    (codes "CONSTANT", t.Constant) ∷ (codes "RETAIN", t.Retain) ∷ (codes "AT", t.At) ∷ (codes "IF", t.If) ∷ (codes "THEN", t.Then) ∷
+    (codes "ELSE", t.Other) ∷ (codes "ELSIF", t.Other) ∷ (codes "END_IF", t.EndIf) ∷ (codes "WHILE", t.While) ∷ (codes "DO", t.Do) ∷
+    (codes "END_WHILE", t.EndWhile) ∷ (codes "CASE", t.Case) ∷ (codes "OF", t.Of) ∷ (codes "END_CASE", t.EndCase) ∷ (codes "FOR", t.Other) ∷
+    (codes "TO", t.Other) ∷ (codes "BY", t.Other) ∷ (codes "END_FOR", t.Other) ∷ (codes "REPEAT", t.Other) ∷ (codes "UNTIL", t.Other) ∷
+    (codes "END_REPEAT", t.Other) ∷ (codes "EXIT", t.Other) ∷ (codes "RETURN", t.Other) ∷ (codes "AND", t.And) ∷ (codes "OR", t.Or) ∷
+    (codes "XOR", t.Xor) ∷ (codes "NOT", t.Not) ∷ (codes "MOD", t.Mod) ∷ (codes "TRUE", t.Number) ∷ (codes "FALSE", t.Number) ∷ []
 
 -- the signs
 abbrev pub signs : Table

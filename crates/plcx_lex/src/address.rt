@@ -5,7 +5,7 @@ ghost use Rattle.plcx_types.specs.Name.{folded};
 ghost use Rattle.plcx_lex.specs.Lexis.{is_one_of, ArePlaces, IsAddress};
 ghost use Rattle.plcx_lex.specs.Scan.{Finds};
 
-use crate::runs::{Class, front, run_len};
+use crate::runs::{Class, prefix, run_len};
 
 fn is_area(byte: u8) -> bool
     ensures { result ≡ is_one_of (codes "iqm") (to_ascii_lowercase byte) }
@@ -25,7 +25,7 @@ fn is_size(byte: u8) -> bool
 fn places_len(most: usize, text: &[u8]) -> Option<usize>
     ensures { Finds (ArePlaces most) (folded text.now) result }
 {
-    let n = run_len(Class::Decimal, front(9, text));
+    let n = run_len(Class::Decimal, prefix(9, text));
     if most == 0 || n == 0 {
         return None;
     }

@@ -31,7 +31,7 @@ fn keep(
     Ok(())
 }
 
-/// The tokens that a text is made of, or the end of its longest front that is made of tokens and of what parts them.
+/// The tokens that a text is made of, or the end of its longest prefix that is made of tokens and of what parts them.
 pub fn tokens(alloc: Global, bytes: &[u8]) -> Result<Vec<TextToken>, TextError>
     ensures tokens { MatchResult result (λ found. AreTokens bytes.now (map (spelt bytes.now) found.items)) (LexFails bytes.now) }
     ensures terminals { IfOk result (λ found. All (λ t. t.terminal ≡ terminal (spelt bytes.now t)) found.items) }

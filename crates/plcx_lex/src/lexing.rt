@@ -5,7 +5,7 @@ ghost use Rattle.plcx_lex.specs.Lexis.{is_decimal};
 ghost use Rattle.plcx_lex.specs.Scan.{NoneOf, AnyToken, LongestTold};
 
 use crate::address::address_len;
-use crate::runs::{Class, front, run_len};
+use crate::runs::{Class, prefix, run_len};
 use crate::sign::sign;
 use crate::terminal::{Terminal, word_terminal};
 use crate::whole::typed_len;
@@ -21,7 +21,7 @@ fn word_token(text: &[u8]) -> (Terminal, usize)
     requires first { is_first_byte (slice_index text.now 0) ≡ true }
     ensures { LongestTold text.now result.0 result.1 }
 {
-    let n = run_len(Class::Part, front(128, text));
+    let n = run_len(Class::Part, prefix(128, text));
     match typed_len(n, text) {
         Some(long) => (Terminal::Number, long),
         None => (word_terminal(&text[..n]), n),

@@ -3,6 +3,7 @@ ghost use Rattle.std.specs.Prelude.{◌≡◌, true, map};
 ghost use Rattle.std.specs.Str.{str_eq_ignore_ascii_case};
 ghost use Rattle.plcx_types.specs.Name.{is_identifier};
 ghost use Rattle.plcx_lex.specs.Scan.{told, IsTold};
+ghost use Rattle.plcx_lex.specs.Terminal.{words};
 
 /// What a token is in the grammar: a word, a sign, or one of a kind of tokens.
 #[derive(Clone, Copy, Debug, PartialEq, Eq)]
@@ -59,52 +60,52 @@ pub enum Terminal {
     Other,
 }
 
-/// The keywords, in lower case, and what each is in the grammar.
+/// The keywords, and what each is in the grammar.
 const KEYWORDS: [(&str, Terminal); 44] = [
-    ("program", Terminal::Program),
-    ("end_program", Terminal::EndProgram),
-    ("function_block", Terminal::FunctionBlock),
-    ("end_function_block", Terminal::EndFunctionBlock),
-    ("function", Terminal::Other),
-    ("end_function", Terminal::Other),
-    ("var", Terminal::Var),
-    ("var_input", Terminal::VarInput),
-    ("var_output", Terminal::VarOutput),
-    ("var_in_out", Terminal::VarInOut),
-    ("var_temp", Terminal::VarTemp),
-    ("var_external", Terminal::Other),
-    ("var_global", Terminal::Other),
-    ("end_var", Terminal::EndVar),
-    ("constant", Terminal::Constant),
-    ("retain", Terminal::Retain),
-    ("at", Terminal::At),
-    ("if", Terminal::If),
-    ("then", Terminal::Then),
-    ("else", Terminal::Other),
-    ("elsif", Terminal::Other),
-    ("end_if", Terminal::EndIf),
-    ("while", Terminal::While),
-    ("do", Terminal::Do),
-    ("end_while", Terminal::EndWhile),
-    ("case", Terminal::Case),
-    ("of", Terminal::Of),
-    ("end_case", Terminal::EndCase),
-    ("for", Terminal::Other),
-    ("to", Terminal::Other),
-    ("by", Terminal::Other),
-    ("end_for", Terminal::Other),
-    ("repeat", Terminal::Other),
-    ("until", Terminal::Other),
-    ("end_repeat", Terminal::Other),
-    ("exit", Terminal::Other),
-    ("return", Terminal::Other),
-    ("and", Terminal::And),
-    ("or", Terminal::Or),
-    ("xor", Terminal::Xor),
-    ("not", Terminal::Not),
-    ("mod", Terminal::Mod),
-    ("true", Terminal::Number),
-    ("false", Terminal::Number),
+    ("PROGRAM", Terminal::Program),
+    ("END_PROGRAM", Terminal::EndProgram),
+    ("FUNCTION_BLOCK", Terminal::FunctionBlock),
+    ("END_FUNCTION_BLOCK", Terminal::EndFunctionBlock),
+    ("FUNCTION", Terminal::Other),
+    ("END_FUNCTION", Terminal::Other),
+    ("VAR", Terminal::Var),
+    ("VAR_INPUT", Terminal::VarInput),
+    ("VAR_OUTPUT", Terminal::VarOutput),
+    ("VAR_IN_OUT", Terminal::VarInOut),
+    ("VAR_TEMP", Terminal::VarTemp),
+    ("VAR_EXTERNAL", Terminal::Other),
+    ("VAR_GLOBAL", Terminal::Other),
+    ("END_VAR", Terminal::EndVar),
+    ("CONSTANT", Terminal::Constant),
+    ("RETAIN", Terminal::Retain),
+    ("AT", Terminal::At),
+    ("IF", Terminal::If),
+    ("THEN", Terminal::Then),
+    ("ELSE", Terminal::Other),
+    ("ELSIF", Terminal::Other),
+    ("END_IF", Terminal::EndIf),
+    ("WHILE", Terminal::While),
+    ("DO", Terminal::Do),
+    ("END_WHILE", Terminal::EndWhile),
+    ("CASE", Terminal::Case),
+    ("OF", Terminal::Of),
+    ("END_CASE", Terminal::EndCase),
+    ("FOR", Terminal::Other),
+    ("TO", Terminal::Other),
+    ("BY", Terminal::Other),
+    ("END_FOR", Terminal::Other),
+    ("REPEAT", Terminal::Other),
+    ("UNTIL", Terminal::Other),
+    ("END_REPEAT", Terminal::Other),
+    ("EXIT", Terminal::Other),
+    ("RETURN", Terminal::Other),
+    ("AND", Terminal::And),
+    ("OR", Terminal::Or),
+    ("XOR", Terminal::Xor),
+    ("NOT", Terminal::Not),
+    ("MOD", Terminal::Mod),
+    ("TRUE", Terminal::Number),
+    ("FALSE", Terminal::Number),
 ];
 
 fn reads(word: &[u8], entry: &str) -> bool
@@ -126,12 +127,19 @@ fn looked_up(table: &[(&str, Terminal)], word: &[u8]) -> Option<Terminal>
     None
 }
 
+/// What a keyword is in the grammar.
+fn keyword(word: &[u8]) -> Option<Terminal>
+    ensures { result ≡ told words word.now }
+{
+    looked_up(&KEYWORDS, word)
+}
+
 /// What a word is in the grammar. A word that is no keyword is a name.
 pub(crate) fn word_terminal(word: &[u8]) -> Terminal
     requires { is_identifier word.now ≡ true }
     ensures { IsTold word.now result }
 {
-    match looked_up(&KEYWORDS, word) {
+    match keyword(word) {
         Some(terminal) => terminal,
         None => Terminal::Name,
     }

@@ -10,7 +10,7 @@ ghost use Rattle.plcx_types.specs.Reading.{behind, with_digit, GivesRest};
 ghost use Rattle.plcx_lex.specs.Scan.{longer, is_end, IsRun, Finds, After, Numeral, Whole, Truth, Number, Typed};
 
 use crate::number::named;
-use crate::runs::{Class, front, run_len};
+use crate::runs::{Class, prefix, run_len};
 use plcx_types::{Ty, read_number};
 
 const GREATEST: u128 = 170_141_183_460_469_231_731_687_303_715_884_105_727;
@@ -168,7 +168,7 @@ fn time_of(text: &[u8]) -> Option<i128>
 fn time_len(text: &[u8]) -> Option<usize>
     ensures { Finds (Number ty.Time) (folded text.now) result }
 {
-    let mut n = run_len(Class::Time, front(128, text));
+    let mut n = run_len(Class::Time, prefix(128, text));
     while 0 < n {
         match time_of(&text[..n]) {
             Some(_) => return Some(n),

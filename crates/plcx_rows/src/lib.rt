@@ -2,6 +2,8 @@
 #![tactic(auto)]
 
 #[cfg(test)]
+mod coordinates;
+#[cfg(test)]
 mod files;
 #[cfg(test)]
 mod tests;

@@ -25,7 +25,7 @@ use Rattle.plcx_lex.specs.declared.token.TokenKind.TheVariants as kind
 use Rattle.plcx_lex.specs.Number as typed
 use Rattle.plcx_lex.specs.Number.{IsTyped}
 use Rattle.plcx_lex.specs.Lexis as lexis
-use Rattle.plcx_lex.specs.Lexis.{is_decimal, is_one_of, ArePlaces, IsAddress, signs, IsToken}
+use Rattle.plcx_lex.specs.Lexis.{is_decimal, is_one_of, ArePlaces, IsAddress, sign_texts, IsToken}
 
 -- ---- lists
 
@@ -293,7 +293,7 @@ stop_inside kind.Name x w b more h stop = stopped is_next_byte (x ∷ w) b more 
 stop_inside kind.Number x w b more h stop = stopped (λ c. is_inner (to_ascii_lowercase c)) (x ∷ w) b more refl (sym (folded_all is_inner (x ∷ (w ++ b ∷ more))) ∙ typed_inner h.2) stop
 stop_inside kind.Digits x w b more h stop = stopped is_next_byte (x ∷ w) b more refl (digits_bytes (x ∷ (w ++ b ∷ more)) h.0) stop
 stop_inside kind.Address x w b more h stop = stopped (λ c. is_place (to_ascii_lowercase c)) (x ∷ w) b more refl (sym (folded_all is_place (x ∷ (w ++ b ∷ more))) ∙ address_bytes h) stop
-stop_inside kind.Sign x w b more h stop = stopped (λ c. not (is_stop c)) w b more refl (table_test (λ s. list_all (λ c. not (is_stop c)) (drop 1 s)) signs (x ∷ (w ++ b ∷ more)) refl h) stop
+stop_inside kind.Sign x w b more h stop = stopped (λ c. not (is_stop c)) w b more refl (table_test (λ s. list_all (λ c. not (is_stop c)) (drop 1 s)) sign_texts (x ∷ (w ++ b ∷ more)) refl h) stop
 
 -- a word and a point
 pub point_inside : (k : TokenKind) (x : ℕ) (w more : List ℕ) → list_all is_next_byte (x ∷ w) ≡ true → IsToken k (x ∷ (w ++ 46 ∷ more)) → ⊥
@@ -307,9 +307,9 @@ point_inside kind.Digits x w more word h = (let no : false ≡ true = at_place i
 point_inside kind.Address x w more word h =
     let no : true ≡ false = sym (lower_next x ∙ (and_parts (is_next_byte x) (list_all is_next_byte w) word).0) ∙ ap is_next_byte (address_head h) in
     absurd cc
-point_inside kind.Sign x w more word h = opposite (is_next_byte x) (and_parts (is_next_byte x) (list_all is_next_byte w) word).0 (table_test (λ s. not (is_next_byte (head s))) signs (x ∷ (w ++ 46 ∷ more)) refl h)
+point_inside kind.Sign x w more word h = opposite (is_next_byte x) (and_parts (is_next_byte x) (list_all is_next_byte w) word).0 (table_test (λ s. not (is_next_byte (head s))) sign_texts (x ∷ (w ++ 46 ∷ more)) refl h)
 
--- the signs that begin no longer token
+-- the sign_texts that begin no longer token
 abbrev pub lone : List ℕ
 lone = 40 ∷ 46 ∷ 47 ∷ []
 
@@ -330,7 +330,7 @@ alone kind.Name a b more one h = first_word a (b ∷ more) (name_bytes (a ∷ b 
 alone kind.Number a b more one h = opposite (is_next_byte (to_ascii_lowercase a)) (typed_head h.2) (member_test (λ c. not (is_next_byte (to_ascii_lowercase c))) lone a refl one)
 alone kind.Digits a b more one h = first_word a (b ∷ more) (digits_bytes (a ∷ b ∷ more) h.0) one
 alone kind.Address a b more one h = opposite (nat_eq (to_ascii_lowercase a) 37) (ap (λ c. nat_eq c 37) (address_head h)) (member_test (λ c. not (nat_eq (to_ascii_lowercase c) 37)) lone a refl one)
-alone kind.Sign a b more one h = opposite (begins_long a) (table_test may_be signs (a ∷ b ∷ more) refl h) (member_test (λ c. not (begins_long c)) lone a refl one)
+alone kind.Sign a b more one h = opposite (begins_long a) (table_test may_be sign_texts (a ∷ b ∷ more) refl h) (member_test (λ c. not (begins_long c)) lone a refl one)
 
 typed_some : {text : List ℕ} {t : Ty} {n : ℤ} → IsTyped text t n → 0 < length text
 typed_some {text = []} h = (let no : false ≡ true = typed_head h in absurd cc)

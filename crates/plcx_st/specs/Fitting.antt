@@ -40,18 +40,18 @@ abbrev mutual
   ArmsFit no_arm = Unit {0}
   ArmsFit (arm label body arms) = (label ≤ 2147483647) × StatementsFit body × ArmsFit arms
 
-abbrev pub InitialFits : Option Value → Type 0
-InitialFits None = Unit {0}
-InitialFits (Some v) = NumberFits v
+abbrev pub InitialNumberFits : Option Value → Type 0
+InitialNumberFits None = Unit {0}
+InitialNumberFits (Some v) = NumberFits v
 
 abbrev pub DeclarationFits : Declaration → Type 0
-DeclarationFits d = InitialFits d.initial
+DeclarationFits d = InitialNumberFits d.initial
 
 abbrev pub BlockFits : Block → Type 0
 BlockFits b = Each DeclarationFits b.declarations
 
-abbrev pub PouFits : PouText → Type 0
-PouFits p = Each BlockFits p.blocks × StatementsFit (statements p.body)
+abbrev pub PouTextFits : PouText → Type 0
+PouTextFits p = Each BlockFits p.blocks × StatementsFit (statements p.body)
 
 abbrev pub UnitFits : List PouText → Type 0
-UnitFits unit = Each PouFits unit
+UnitFits unit = Each PouTextFits unit

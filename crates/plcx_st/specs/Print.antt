@@ -47,8 +47,8 @@ are_digits kind.Number = false
 are_digits kind.Address = false
 are_digits kind.Sign = false
 
-abbrev pub is_one_of : List (List ℕ) → List ℕ → Bool
-is_one_of texts text = list_any (bytes_eq text) texts
+abbrev pub is_among : List (List ℕ) → List ℕ → Bool
+is_among texts text = list_any (bytes_eq text) texts
 
 abbrev pub none_behind : List (List ℕ)
 none_behind = codes "(" ∷ codes "." ∷ []
@@ -58,19 +58,19 @@ none_before = codes ";" ∷ codes "," ∷ codes ")" ∷ codes "." ∷ []
 
 -- no space parts the two: behind `(` and `.`, before `;` `,` `)` `.`, at the `(` of a call, at the `:` of a label
 unfoldable pub is_joined : Shape → Shape → Bool
-is_joined a b = is_one_of none_behind a.text || is_one_of none_before b.text || (if is_name a.kind then bytes_eq b.text (codes "(") else (if are_digits a.kind then bytes_eq b.text (codes ":") else false))
+is_joined a b = is_among none_behind a.text || is_among none_before b.text || (if is_name a.kind then bytes_eq b.text (codes "(") else (if are_digits a.kind then bytes_eq b.text (codes ":") else false))
 
 abbrev pub gap : Shape → Shape → List ℕ
 gap a b = if is_joined a b then [] else codes " "
 
 -- the text of tokens behind this one
-unfoldable pub behind : Shape → List Shape → List ℕ
-behind a [] = []
-behind a (b ∷ shapes) = gap a b ++ (b.text ++ behind b shapes)
+unfoldable pub text_behind : Shape → List Shape → List ℕ
+text_behind a [] = []
+text_behind a (b ∷ shapes) = gap a b ++ (b.text ++ text_behind b shapes)
 
 unfoldable pub joined : List Shape → List ℕ
 joined [] = []
-joined (a ∷ shapes) = a.text ++ behind a shapes
+joined (a ∷ shapes) = a.text ++ text_behind a shapes
 
 -- ---- expressions
 
