@@ -6,7 +6,7 @@ use Rattle.std.specs.Str.{bytes_eq, str_eq_ignore_ascii_case}
 use Rattle.std.proofs.lemmas.Bool.{cases_Bool, and_parts}
 use Rattle.std.proofs.lemmas.Slice.Eq.{bytes_eq-Decides}
 use Rattle.plcx_types.specs.declared.ty.Ty.TheVariants as ty
-use Rattle.plcx_types.specs.Name.{folded, is_identifier}
+use Rattle.plcx_types.specs.Name.{in_lower_case, is_identifier}
 use Rattle.plcx_types.specs.Reserved.{is_keyword, is_in}
 use Rattle.plcx_types.specs.Literal as form
 use Rattle.plcx_types.specs.Literal.{IsTruth}
@@ -44,7 +44,7 @@ record Row (table : Table) (word : List ℕ) (t : Terminal) : Type 0 where
   found : found str_eq_ignore_ascii_case table word ≡ t
   suits : suits (kind_of t) (is_truth word) ≡ true
 
-truth_same : (word other : List ℕ) → folded word ≡ folded other → is_truth word ≡ is_truth other
+truth_same : (word other : List ℕ) → in_lower_case word ≡ in_lower_case other → is_truth word ≡ is_truth other
 truth_same word other same = ap (λ x. bytes_eq x (codes "true") || bytes_eq x (codes "false")) same
 
 told_row : (table : Table) (word : List ℕ) (t : Terminal) → list_all is_row table ≡ true → told table word ≡ Some t → Row table word t
@@ -56,7 +56,7 @@ told_row (e ∷ es) word t all is =
       | inl same ↦ (
           let here : Some e.1 ≡ Some t = rw same at is in
           let one : e.1 ≡ t = cc in
-          let truth : is_truth word ≡ is_truth e.0 = truth_same word e.0 ((bytes_eq-Decides (folded word) (folded e.0)).0 same) in
+          let truth : is_truth word ≡ is_truth e.0 = truth_same word e.0 ((bytes_eq-Decides (in_lower_case word) (in_lower_case e.0)).0 same) in
           record {
             listed = rw same refl;
             found = rw same one;
@@ -78,11 +78,11 @@ untold (e ∷ es) word is =
 
 truth_number : (word : List ℕ) → is_truth word ≡ true → IsToken kind.Number word
 truth_number word is =
-    elim (cases_Bool (bytes_eq (folded word) (codes "true"))) [
-      | inl same ↦ (ty.Bool, pos 1, number.IsTyped.truth (subst (λ (x : List ℕ). IsTruth x (pos 1)) (sym ((bytes_eq-Decides (folded word) (codes "true")).0 same)) form.IsTruth.truth))
+    elim (cases_Bool (bytes_eq (in_lower_case word) (codes "true"))) [
+      | inl same ↦ (ty.Bool, pos 1, number.IsTyped.truth (subst (λ (x : List ℕ). IsTruth x (pos 1)) (sym ((bytes_eq-Decides (in_lower_case word) (codes "true")).0 same)) form.IsTruth.truth))
       | inr other ↦ (
-          let no : bytes_eq (folded word) (codes "false") ≡ true = rw other at is in
-          (ty.Bool, pos 0, number.IsTyped.truth (subst (λ (x : List ℕ). IsTruth x (pos 0)) (sym ((bytes_eq-Decides (folded word) (codes "false")).0 no)) form.falsehood)))
+          let no : bytes_eq (in_lower_case word) (codes "false") ≡ true = rw other at is in
+          (ty.Bool, pos 0, number.IsTyped.truth (subst (λ (x : List ℕ). IsTruth x (pos 0)) (sym ((bytes_eq-Decides (in_lower_case word) (codes "false")).0 no)) form.falsehood)))
     ]
 
 number_only : (t : Terminal) → kind_of t ≡ kind.Number → t ≡ terminals.Number

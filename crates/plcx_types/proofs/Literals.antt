@@ -12,7 +12,7 @@ use Rattle.plcx_types.specs.declared.literal.Literal.{Literal}
 use Rattle.plcx_types.specs.declared.literal.Literal.TheVariants.{Typed, Whole}
 use Rattle.plcx_types.specs.Range.{InRange}
 use Rattle.plcx_types.specs.TypeName.{same_ty, all_types}
-use Rattle.plcx_types.specs.Numeral.{are_digits, IsWhole, plain, plus, minus, binary, octal, hexadecimal}
+use Rattle.plcx_types.specs.Numeral.{are_digits, IsWholeNumber, plain, plus, minus, binary, octal, hexadecimal}
 use Rattle.plcx_types.specs.Duration.{IsTime}
 use Rattle.plcx_types.specs.Literal.{value, type_word, IsTruth, IsNumber, IsForm, short_time}
 use Rattle.plcx_types.specs.Literal as form
@@ -44,7 +44,7 @@ word_foreign ty.Time = refl
 no_word : (word text : List ℕ) → are_digits 10 false word ≡ false → are_digits 10 false text ≡ true → bytes_eq text word ≡ false
 no_word word text other digits = false_from_ne_true _ (λ h. both_ways (are_digits 10 false word) other (subst (λ t. are_digits 10 false t ≡ true) ((bytes_eq-Decides text word).0 h) digits))
 
-no_truth : (text : List ℕ) (n : ℤ) → IsWhole text n → truth text ≡ None
+no_truth : (text : List ℕ) (n : ℤ) → IsWholeNumber text n → truth text ≡ None
 no_truth text n (plain {text = digits} is) = rw (no_word (codes "true") digits refl is.digits, no_word (codes "false") digits refl is.digits)
 no_truth text n (plus is) = refl
 no_truth text n (minus is) = refl
@@ -91,7 +91,7 @@ unfolding typed_or_whole
 no_name [] text digits = refl
 no_name (t ∷ ts) text digits = rw (behind_foreign (type_word t) text false (word_foreign t) digits) (no_name ts text digits)
 
-whole_found : (text : List ℕ) (n : ℤ) → IsWhole text n → literal_of text ≡ option_map Whole (whole text)
+whole_found : (text : List ℕ) (n : ℤ) → IsWholeNumber text n → literal_of text ≡ option_map Whole (whole text)
 unfolding literal_of timed_or_other typed_or_whole
 whole_found text n (plain {text = digits} {n = m} is) =
     ap (λ r. truth_or r (timed_or_other digits)) (no_truth digits (pos m) (plain is))

@@ -19,5 +19,5 @@ abbrev pub is_identifier : List ℕ → Bool
 is_identifier text = nat_lt 0 (length text) && nat_le (length text) 128 && is_first_byte (slice_index text 0) && list_all is_next_byte text
 
 -- a name without the case of its letters: two texts are one name where these are equal
-abbrev pub folded : List ℕ → List ℕ
-folded text = map to_ascii_lowercase text
+abbrev pub in_lower_case : List ℕ → List ℕ
+in_lower_case text = map to_ascii_lowercase text

@@ -11,29 +11,29 @@ abbrev pub all_types : List Ty
 all_types = ty.Bool ∷ ty.Byte ∷ ty.Word ∷ ty.Dword ∷ ty.Lword ∷ ty.Sint ∷ ty.Int ∷ ty.Dint ∷ ty.Lint ∷ ty.Usint ∷ ty.Uint ∷ ty.Udint ∷ ty.Ulint ∷ ty.Time ∷ []
 
 -- the place of a type in that order
-abbrev pub place_of_type : Ty → ℕ
-place_of_type ty.Bool = 0
-place_of_type ty.Byte = 1
-place_of_type ty.Word = 2
-place_of_type ty.Dword = 3
-place_of_type ty.Lword = 4
-place_of_type ty.Sint = 5
-place_of_type ty.Int = 6
-place_of_type ty.Dint = 7
-place_of_type ty.Lint = 8
-place_of_type ty.Usint = 9
-place_of_type ty.Uint = 10
-place_of_type ty.Udint = 11
-place_of_type ty.Ulint = 12
-place_of_type ty.Time = 13
+abbrev pub position_of_type : Ty → ℕ
+position_of_type ty.Bool = 0
+position_of_type ty.Byte = 1
+position_of_type ty.Word = 2
+position_of_type ty.Dword = 3
+position_of_type ty.Lword = 4
+position_of_type ty.Sint = 5
+position_of_type ty.Int = 6
+position_of_type ty.Dint = 7
+position_of_type ty.Lint = 8
+position_of_type ty.Usint = 9
+position_of_type ty.Uint = 10
+position_of_type ty.Udint = 11
+position_of_type ty.Ulint = 12
+position_of_type ty.Time = 13
 
 -- both are one type
 abbrev pub same_ty : Ty → Ty → Bool
-same_ty t u = nat_eq (place_of_type t) (place_of_type u)
+same_ty t u = nat_eq (position_of_type t) (position_of_type u)
 
 -- the name of a type in capitals
 abbrev pub type_name : Ty → List ℕ
-type_name t = map to_ascii_uppercase (slice_index_or types (place_of_type t) [])
+type_name t = map to_ascii_uppercase (slice_index_or types (position_of_type t) [])
 
 -- the first type of a list of types whose name is the word, whatever the case of its letters
 abbrev pub first_named : List ℕ → List Ty → Option Ty

@@ -1,6 +1,6 @@
 ghost use Rattle.std.specs.Prelude.{◌≡◌, ◌↔◌, IsTrue, IfOk, MatchResult};
 ghost use Rattle.std.specs.List.{list_all};
-ghost use Rattle.plcx_types.specs.Name.{is_identifier, is_first_byte, is_next_byte, folded};
+ghost use Rattle.plcx_types.specs.Name.{is_identifier, is_first_byte, is_next_byte, in_lower_case};
 ghost use Rattle.plcx_types.specs.IdentError.{IdentFails};
 
 use crate::memory::NoMemory;
@@ -91,7 +91,7 @@ impl Ident {
 
     /// Whether both are one name, whatever the case of their letters.
     pub fn same(&self, other: &Ident) -> bool
-        ensures { IsTrue result ↔ (folded self.now ≡ folded other.now) }
+        ensures { IsTrue result ↔ (in_lower_case self.now ≡ in_lower_case other.now) }
     {
         same_name(&self.spelling, &other.spelling)
     }
@@ -99,7 +99,7 @@ impl Ident {
 
 /// Whether two texts are one name, whatever the case of their ASCII letters.
 pub fn same_name(left: &[u8], right: &[u8]) -> bool
-    ensures { IsTrue result ↔ (folded left.now ≡ folded right.now) }
+    ensures { IsTrue result ↔ (in_lower_case left.now ≡ in_lower_case right.now) }
 {
     if left.len() != right.len() {
         return false;

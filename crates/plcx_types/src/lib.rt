@@ -1,7 +1,7 @@
 //! What all of plcx speaks of: names, types, values, spans, and want of memory.
 //!
 //! A name is seen by contracts as its bytes, in the spelling that it was given. The crates above compare
-//! names by `folded`, and refuse names by `is_reserved`. A value is seen as its type and its number.
+//! names by `in_lower_case`, and refuse names by `is_reserved`. A value is seen as its type and its number.
 #![tactic(auto)]
 
 mod duration;

@@ -3,7 +3,7 @@ ghost use Rattle.std.specs.Prelude.{◌≡◌, ◌++◌, IfOk, codes};
 ghost use Rattle.std.specs.Fmt.{signed_decimal};
 ghost use Rattle.plcx_types.specs.TypeName.{type_name};
 ghost use Rattle.plcx_types.specs.Printed.{printed, truth_word};
-ghost use Rattle.plcx_types.specs.Literal.{StandsFor};
+ghost use Rattle.plcx_types.specs.Literal.{StandsForLiteral};
 ghost use Rattle.plcx_types.specs.declared.literal.Literal.TheVariants.{Typed};
 ghost use Rattle.plcx_types.specs.Range.{InRange};
 ghost use Rattle.std.specs.Prelude.{string_bytes};
@@ -63,7 +63,7 @@ fn bytes_of(alloc: Global, v: Val) -> Result<Vec<u8>, NoMemory>
 /// The literal of a value, as it is printed everywhere.
 pub fn print_literal(alloc: Global, v: Val) -> Result<Vec<u8>, NoMemory>
     ensures form { IfOk result (λ bytes. bytes.items ≡ printed v) }
-    ensures stands { IfOk result (λ bytes. StandsFor bytes.items (Typed v)) }
+    ensures stands { IfOk result (λ bytes. StandsForLiteral bytes.items (Typed v)) }
 {
     let bytes = bytes_of(alloc, v)?;
     Ok(bytes)
