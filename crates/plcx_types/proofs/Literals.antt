@@ -18,7 +18,7 @@ use Rattle.plcx_types.specs.Literal.{value, type_word, IsTruth, IsNumber, IsForm
 use Rattle.plcx_types.specs.Literal as form
 use Rattle.plcx_types.specs.Reading.{behind, choose, whole}
 use Rattle.plcx_types.specs.ReadLiteral.{is_within, truth, or_else, number_behind, of_type, typed, behind_name, typed_or_whole, timed_or_other, truth_or, literal_of}
-use Rattle.plcx_types.proofs.Behind.{behind_is}
+use Rattle.plcx_types.proofs.BehindWord.{behind_is}
 use Rattle.plcx_types.proofs.Wholes.{chosen, mapped, is_foreign, behind_foreign, whole_reads, whole_is}
 use Rattle.plcx_types.proofs.Durations.{time_reads}
 use Rattle.plcx_types.proofs.DurationsRead.{bound, time_is}

@@ -4,7 +4,7 @@ use Rattle.std.proofs.lemmas.List.{take_more, map-append, drop_all}
 use Rattle.std.specs.Char.{to_ascii_lowercase}
 use Rattle.plcx_types.specs.Name.{in_lower_case}
 use Rattle.plcx_types.specs.Reading.{front, back}
-use Rattle.plcx_types.proofs.Behind.{folded_at}
+use Rattle.plcx_types.proofs.BehindWord.{folded_at}
 
 -- so many bytes pass
 pub record Splits (passes : ℕ → Bool) (text : List ℕ) (i : ℕ) : Type 0 where

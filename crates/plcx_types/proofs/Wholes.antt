@@ -6,7 +6,7 @@ use Rattle.std.specs.Option.{option_map}
 use Rattle.std.proofs.lemmas.Bool.{cases_Bool, and_parts, eqb-true}
 use Rattle.plcx_types.specs.Numeral.{is_digit, are_digits, IsNumeral, IsWholeNumber, plain, plus, minus, binary, octal, hexadecimal}
 use Rattle.plcx_types.specs.Reading.{behind, choose, numeral, positive, negative, unsigned_whole, whole}
-use Rattle.plcx_types.proofs.Behind.{behind_is}
+use Rattle.plcx_types.proofs.BehindWord.{behind_is}
 use Rattle.plcx_types.proofs.Numerals.{numeral_reads, numeral_is}
 
 -- which way a choice went

@@ -1,13 +1,12 @@
 -- Literals: which text stands for which.
-use Rattle.std.specs.Prelude.{◌≡◌, ◌++◌, ℕ, ℤ, pos, false, List, [], codes, slice_index_or}
+use Rattle.std.specs.Prelude.{◌≡◌, ◌++◌, ℕ, ℤ, pos, false, List, codes}
 use Rattle.plcx_types.specs.declared.ty.Ty.{Ty}
 use Rattle.plcx_types.specs.declared.ty.Ty.TheVariants as ty
 use Rattle.plcx_types.specs.declared.literal.Literal.{Literal}
 use Rattle.plcx_types.specs.declared.literal.Literal.TheVariants.{Typed, Whole}
 use Rattle.plcx_types.specs.Name.{in_lower_case}
 use Rattle.plcx_types.specs.Range.{InRange}
-use Rattle.plcx_types.specs.Reserved.{types}
-use Rattle.plcx_types.specs.TypeName.{position_of_type, same_ty}
+use Rattle.plcx_types.specs.TypeName.{same_ty, type_name}
 use Rattle.plcx_types.specs.Value.{Value}
 use Rattle.plcx_types.specs.Numeral.{IsWholeNumber}
 use Rattle.plcx_types.specs.Duration.{IsTime}
@@ -17,7 +16,7 @@ value t n = record { ty = t; n = n }
 
 -- the name of a type in lower case
 abbrev pub type_word : Ty → List ℕ
-type_word t = slice_index_or types (position_of_type t) []
+type_word t = in_lower_case (type_name t)
 
 pub data IsTruth : List ℕ → ℤ → Type 0 where
   truth : IsTruth (codes "true") (pos 1)

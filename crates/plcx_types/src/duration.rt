@@ -1,13 +1,12 @@
 //! Lengths of time: parts of a number and a unit.
 ghost use Rattle.std.specs.Prelude.{◌≡◌, ◌≤◌, ◌<◌, ◌+◌, ◌*◌, ◌^◌, ℕ, Some, None, IfSome, MatchOption, length};
 ghost use Rattle.std.specs.Option.{option_map, unwrap_or};
-ghost use Rattle.std.specs.Char.{to_ascii_lowercase};
 ghost use Rattle.plcx_types.specs.Name.{in_lower_case};
-ghost use Rattle.plcx_types.specs.Numeral.{is_digit};
 ghost use Rattle.plcx_types.specs.Duration.{letters_of, milliseconds_of, units};
-ghost use Rattle.plcx_types.specs.Reading.{front, back, is_letter, part_at, count, exact, last_part, with_others, behind_gap, parts, time};
+ghost use Rattle.plcx_types.specs.Reading.{part_at, count, exact, last_part, with_others, behind_gap, parts, time};
 
-use crate::numeral::{behind, numeral};
+use crate::numeral::numeral;
+use crate::reading::{behind, split_digits, split_letters};
 
 /// A unit of a length of time.
 #[derive(Clone, Copy)]
@@ -52,40 +51,6 @@ impl TimeUnit {
             TimeUnit::Millisecond => 1,
         }
     }
-}
-
-fn is_decimal(byte: u8) -> bool
-    ensures { result ≡ is_digit 10 (to_ascii_lowercase byte) }
-{
-    byte.is_ascii_digit()
-}
-
-fn is_letter(byte: u8) -> bool
-    ensures { result ≡ is_letter (to_ascii_lowercase byte) }
-{
-    byte.is_ascii_alphabetic()
-}
-
-fn split_digits(text: &[u8]) -> (&[u8], &[u8])
-    ensures digits { in_lower_case result.0.now ≡ front (is_digit 10) (in_lower_case text.now) }
-    ensures rest { in_lower_case result.1.now ≡ back (is_digit 10) (in_lower_case text.now) }
-{
-    let mut count = 0;
-    while count < text.len() && is_decimal(text[count]) {
-        count += 1;
-    }
-    text.split_at(count)
-}
-
-fn split_letters(text: &[u8]) -> (&[u8], &[u8])
-    ensures letters { in_lower_case result.0.now ≡ front is_letter (in_lower_case text.now) }
-    ensures rest { in_lower_case result.1.now ≡ back is_letter (in_lower_case text.now) }
-{
-    let mut count = 0;
-    while count < text.len() && is_letter(text[count]) {
-        count += 1;
-    }
-    text.split_at(count)
 }
 
 #[derive(Clone, Copy)]

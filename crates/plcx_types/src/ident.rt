@@ -3,6 +3,7 @@ ghost use Rattle.std.specs.List.{list_all};
 ghost use Rattle.plcx_types.specs.Name.{is_identifier, is_first_byte, is_next_byte, in_lower_case};
 ghost use Rattle.plcx_types.specs.IdentError.{IdentFails};
 
+use crate::limits::MAX_NAME_BYTES;
 use crate::memory::NoMemory;
 use std::alloc::Global;
 use std::marker::Model;
@@ -53,7 +54,7 @@ fn are_next(text: &[u8]) -> bool
 pub fn is_identifier(text: &[u8]) -> bool
     ensures { result ≡ is_identifier text.now }
 {
-    0 < text.len() && text.len() <= 128 && is_first(text[0]) && are_next(text)
+    0 < text.len() && text.len() <= MAX_NAME_BYTES && is_first(text[0]) && are_next(text)
 }
 
 impl Ident {

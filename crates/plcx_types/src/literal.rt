@@ -5,7 +5,7 @@ ghost use Rattle.plcx_types.specs.declared.ty.Ty.TheVariants as ty;
 ghost use Rattle.plcx_types.specs.Name.{in_lower_case};
 ghost use Rattle.plcx_types.specs.Reading.{GivesRest};
 ghost use Rattle.plcx_types.specs.TypeName.{all_types};
-ghost use Rattle.plcx_types.specs.Literal.{value, type_word, StandsForLiteral, StandsForValue};
+ghost use Rattle.plcx_types.specs.Literal.{value, StandsForLiteral, StandsForValue};
 ghost use Rattle.plcx_types.specs.ReadLiteral.{truth, number_behind, of_type, typed, behind_name, typed_or_whole, timed_or_other, literal_of};
 ghost use Rattle.plcx_types.specs.Value.{Value};
 ghost use Rattle.plcx_types.specs.Literal.{IsValueOf, IsNumber};
@@ -13,9 +13,9 @@ ghost use Rattle.plcx_types.specs.declared.literal.Literal.{Literal};
 ghost use Rattle.plcx_types.specs.declared.literal.Literal.TheVariants.{Whole};
 
 use crate::duration::time;
-use crate::numeral::{behind, whole};
-use crate::reserved::TYPES;
-use crate::ty::Ty;
+use crate::numeral::whole;
+use crate::reading::behind;
+use crate::ty::{ALL_TYPES, Ty};
 use crate::val::Val;
 
 /// What a literal stands for: a value, or a whole number without a type.
@@ -29,30 +29,8 @@ pub enum Literal {
 #[derive(Clone, Copy, Debug, PartialEq, Eq)]
 pub struct NotLiteral;
 
-const ALL_TYPES: [Ty; 14] = [
-    Ty::Bool,
-    Ty::Byte,
-    Ty::Word,
-    Ty::Dword,
-    Ty::Lword,
-    Ty::Sint,
-    Ty::Int,
-    Ty::Dint,
-    Ty::Lint,
-    Ty::Usint,
-    Ty::Uint,
-    Ty::Udint,
-    Ty::Ulint,
-    Ty::Time,
-];
-
-fn type_word(ty: Ty) -> &'static str
-    ensures { result.now ≡ type_word ty }
-{
-    TYPES[ty as usize]
-}
-
-fn truth(text: &[u8]) -> Option<i128>
+/// The number of TRUE or FALSE, whatever the case of its letters.
+pub fn truth(text: &[u8]) -> Option<i128>
     ensures { result ≡ truth (in_lower_case text.now) }
 {
     if text.eq_ignore_ascii_case(b"true") {
@@ -103,7 +81,7 @@ fn typed(ty: Ty, text: &[u8]) -> Option<Literal>
 fn behind_name(ty: Ty, text: &[u8]) -> Option<&[u8]>
     ensures { GivesRest (λ rest. in_lower_case rest.now) result (behind_name ty (in_lower_case text.now)) }
 {
-    let rest = behind(type_word(ty).as_bytes(), text)?;
+    let rest = behind(ty.name().as_bytes(), text)?;
     behind(b"#", rest)
 }
 

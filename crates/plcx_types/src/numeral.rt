@@ -4,27 +4,15 @@ ghost use Rattle.std.specs.Option.{option_map};
 ghost use Rattle.plcx_types.specs.Name.{in_lower_case};
 ghost use Rattle.std.specs.Char.{to_ascii_lowercase};
 ghost use Rattle.plcx_types.specs.Numeral.{is_digit, digit_value, greatest};
-ghost use Rattle.plcx_types.specs.Reading.{behind, GivesRest, with_digit, numeral, unsigned_whole, whole};
+ghost use Rattle.plcx_types.specs.Reading.{with_digit, numeral, unsigned_whole, whole};
 
+use crate::reading::behind;
+
+/// The greatest number that a numeral stands for.
 const GREATEST: u128 = 170_141_183_460_469_231_731_687_303_715_884_105_727;
 
-/// The rest of a text that begins with a word, whatever the case of its letters.
-#[tactic(auto)]
-pub(crate) fn behind<'t>(word: &[u8], text: &'t [u8]) -> Option<&'t [u8]>
-    ensures { GivesRest (λ rest. in_lower_case rest.now) result (behind (in_lower_case word.now) (in_lower_case text.now)) }
-{
-    if text.len() < word.len() {
-        return None;
-    }
-    let (front, rest) = text.split_at(word.len());
-    if front.eq_ignore_ascii_case(word) {
-        Some(rest)
-    } else {
-        None
-    }
-}
-
-fn digit(base: u128, byte: u8) -> Option<u128>
+/// The value of a byte that is a digit of the base, whatever its case.
+pub fn digit(base: u128, byte: u8) -> Option<u128>
     ensures { MatchOption result (is_digit base (to_ascii_lowercase byte) ≡ false) (λ digit. (is_digit base (to_ascii_lowercase byte) ≡ true) × (digit ≡ digit_value (to_ascii_lowercase byte))) }
 {
     let digit = match byte.to_ascii_lowercase() {
@@ -35,8 +23,9 @@ fn digit(base: u128, byte: u8) -> Option<u128>
     if digit < base { Some(digit) } else { None }
 }
 
+/// A numeral's number with one more digit; None where it is too great.
 #[tactic(auto, unfolding(crate::specs::Reading::with_digit))]
-fn with_digit(base: u128, n: u128, digit: u128) -> Option<u128>
+pub fn with_digit(base: u128, n: u128, digit: u128) -> Option<u128>
     ensures value { result ≡ with_digit base n digit }
     ensures bounded { IfSome result (λ n. n ≤ greatest) }
 {

@@ -4,7 +4,7 @@ use Rattle.std.proofs.lemmas.List.{length-map}
 use Rattle.std.specs.Char.{to_ascii_lowercase}
 use Rattle.plcx_types.specs.Name.{in_lower_case}
 use Rattle.plcx_types.specs.Reading.{numeral}
-use Rattle.plcx_types.proofs.Bounds.{number_small}
+use Rattle.plcx_types.proofs.NumberBounds.{number_small}
 use Rattle.plcx_types.proofs.Numerals.{numeral_is}
 use Rattle.plcx_types.proofs.duration.count.Goals as goal
 

@@ -1,7 +1,7 @@
 use Rattle.std.proofs.Common.{length, ◌-◌}
 use Rattle.plcx_types.specs.Numeral.{is_digit}
 use Rattle.plcx_types.proofs.Splitting.{Splits}
-use Rattle.plcx_types.proofs.duration.split_digits.Given as goal
+use Rattle.plcx_types.proofs.reading.split_digits.Given as goal
 
 -- so many bytes are digits or letters
 abbrev pub invariant-loop-count : goal.invariant-loop-count

@@ -1,6 +1,6 @@
 use Rattle.std.proofs.Common.{arith}
-use Rattle.plcx_types.proofs.Behind.{folded_some, folded_none, folded_short}
-use Rattle.plcx_types.proofs.numeral.behind.Goals as goal
+use Rattle.plcx_types.proofs.BehindWord.{folded_some, folded_none, folded_short}
+use Rattle.plcx_types.proofs.reading.behind.Goals as goal
 
 pub returns-then-text-word : goal.returns-then-text-word
 returns-then-text-word c = folded_short c.args.word.now c.args.text.now (omega arith)
