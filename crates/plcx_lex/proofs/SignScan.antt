@@ -5,7 +5,8 @@ use Rattle.std.specs.List.{list_all, list_any}
 use Rattle.std.specs.Str.{bytes_eq}
 use Rattle.std.proofs.lemmas.Bool.{cases_Bool, and_parts, leb-true}
 use Rattle.std.proofs.lemmas.Slice.Eq.{bytes_eq-Decides}
-use Rattle.plcx_lex.specs.Lexis.{is_one_of, sign_texts}
+use Rattle.plcx_types.specs.Address.{is_one_of}
+use Rattle.plcx_lex.specs.Lexis.{sign_texts}
 use Rattle.plcx_lex.specs.Scan.{NoneOf, LongestOf, LongestSign, IsSign, Sign, is_pair}
 use Rattle.plcx_lex.specs.declared.terminal.Terminal.{Terminal}
 

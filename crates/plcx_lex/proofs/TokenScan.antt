@@ -6,7 +6,8 @@ use Rattle.std.proofs.lemmas.List.{get_or-take, length-take, take-take}
 use Rattle.std.proofs.lemmas.List.Folds.{list_all_at}
 use Rattle.plcx_types.specs.Name.{in_lower_case, is_first_byte, is_next_byte, is_identifier}
 use Rattle.plcx_lex.specs.Number.{IsTyped}
-use Rattle.plcx_lex.specs.Lexis.{is_decimal, IsAddress, IsToken, Longest}
+use Rattle.plcx_types.specs.Address.{IsAddressForm}
+use Rattle.plcx_lex.specs.Lexis.{is_decimal, IsToken, Longest}
 use Rattle.plcx_lex.specs.declared.token.TokenKind.{TokenKind}
 use Rattle.plcx_lex.specs.declared.token.TokenKind.TheVariants as kind
 use Rattle.plcx_lex.specs.Scan.{NoneOf, LongestOf, LongestTold, LongestSign, IsRun, Typed, Word, AnyToken, Sign}
@@ -115,20 +116,20 @@ digits_found text n some first run =
 no_token_empty : (k : TokenKind) (text : List ℕ) → length text ≡ 0 → IsToken k text → ⊥
 no_token_empty k text none is = let starts = token_starts k text is in omega (arith, starts.some)
 
-pub address_found : (text : List ℕ) (n : ℕ) → get_or text 0 0 ≡ 37 → LongestOf IsAddress (in_lower_case text) n → Longest text kind.Address n
+pub address_found : (text : List ℕ) (n : ℕ) → get_or text 0 0 ≡ 37 → LongestOf IsAddressForm (in_lower_case text) n → Longest text kind.Address n
 address_found text n first found = record {
   within = omega (arith, found.within, folded_length text);
-  formed = subst IsAddress (sym (fold_take n text)) found.holds;
+  formed = subst IsAddressForm (sym (fold_take n text)) found.holds;
   longest = λ m other lt le is. (
       let pos : 0 < m = omega arith in
-      found.longest m lt (omega (arith, folded_length text)) (subst IsAddress (fold_take m text) (address_way other (take m text) (first_kept text m pos ∙ first) is)));
+      found.longest m lt (omega (arith, folded_length text)) (subst IsAddressForm (fold_take m text) (address_way other (take m text) (first_kept text m pos ∙ first) is)));
 }
 
-pub address_unfound : (text : List ℕ) → get_or text 0 0 ≡ 37 → NoneOf IsAddress (in_lower_case text) → NoneOf AnyToken text
+pub address_unfound : (text : List ℕ) → get_or text 0 0 ≡ 37 → NoneOf IsAddressForm (in_lower_case text) → NoneOf AnyToken text
 address_unfound text first none zero le h = no_token_empty h.0 [] refl h.1
 address_unfound text first none (suc m) le h =
     let pos : 0 < suc m = omega arith in
-    none (suc m) (omega (arith, folded_length text)) (subst IsAddress (fold_take (suc m) text) (address_way h.0 (take (suc m) text) (first_kept text (suc m) pos ∙ first) h.1))
+    none (suc m) (omega (arith, folded_length text)) (subst IsAddressForm (fold_take (suc m) text) (address_way h.0 (take (suc m) text) (first_kept text (suc m) pos ∙ first) h.1))
 
 pub sign_found : (text : List ℕ) (n : ℕ) → is_first_byte (get_or text 0 0) ≡ false → is_decimal (get_or text 0 0) ≡ false → (get_or text 0 0 ≡ 37 → ⊥) → LongestOf Sign text n → Longest text kind.Sign n
 sign_found text n letter digit percent found = record {

@@ -1,5 +1,5 @@
 -- The table of words is that of the keywords, and what a word is found as is what it is in the grammar.
-use Rattle.std.proofs.Common.{◌≡◌, ◌||◌, not, ℕ, Bool, true, false, inl, inr, List, [], ◌∷◌, map, Option, Some, None, refl, ap, sym, ◌∙◌, subst}
+use Rattle.std.proofs.Common.{◌≡◌, ◌||◌, not, ℕ, Bool, true, false, inl, inr, List, [], ◌∷◌, map, Some, None, refl, ap, sym, ◌∙◌, subst}
 use Rattle.std.specs.Prelude.{codes, pos}
 use Rattle.std.specs.List.{list_all}
 use Rattle.std.specs.Str.{bytes_eq, str_eq_ignore_ascii_case}
@@ -114,4 +114,3 @@ told_word word t is = told_as (kind_of t) word t refl (told_row words word t all
 -- a word that is not in the table is a name
 pub untold_word : (word : List ℕ) → is_identifier word ≡ true → told words word ≡ None → IsTold word terminals.Name
 untold_word word form is = record { token = (form, sym (listed_keyword word) ∙ untold words word is); terminal = refl }
-

@@ -1,10 +1,10 @@
 -- How a text is cut into tokens and what parts them.
-use Rattle.std.specs.Prelude.{◌≡◌, ◌⊎◌, ◌+◌, ◌-◌, ◌<◌, ◌≤◌, ◌||◌, ℕ, suc, ℤ, Bool, true, false, nat_eq, List, [], ◌∷◌, ◌++◌, length, take, drop, map, slice_index, Option, Some, None, codes}
+use Rattle.std.specs.Prelude.{◌≡◌, ◌⊎◌, ◌+◌, ◌-◌, ◌<◌, ◌≤◌, ◌||◌, ℕ, ℤ, Bool, true, false, List, [], ◌∷◌, length, take, drop, map, slice_index, Option, Some, None, codes}
 use Rattle.std.specs.List.{list_all, list_any}
 use Rattle.std.specs.Str.{bytes_eq}
 use Rattle.plcx_types.specs.Name.{is_between, is_identifier, in_lower_case}
 use Rattle.plcx_types.specs.Reserved.{is_keyword}
-use Rattle.plcx_types.specs.Duration.{AreDigits}
+use Rattle.plcx_types.specs.Address.{is_one_of, IsAddress}
 use Rattle.plcx_types.specs.declared.ty.Ty.{Ty}
 use Rattle.plcx_lex.specs.Number.{IsLiteral}
 use Rattle.plcx_lex.specs.Terminal.{signs, kind_of}
@@ -22,20 +22,6 @@ is_truth text = bytes_eq (in_lower_case text) (codes "true") || bytes_eq (in_low
 abbrev pub is_decimal : ℕ → Bool
 is_decimal b = is_between 48 57 b
 
--- 1 to so many numbers of 1 to 9 digits, with points between them
-pub data ArePlaces : ℕ → List ℕ → Type 0 where
-  last : {most : ℕ} {digits : List ℕ} → AreDigits 9 digits → ArePlaces (suc most) digits
-  more : {most : ℕ} {digits rest : List ℕ} → AreDigits 9 digits → ArePlaces most rest → ArePlaces (suc most) (digits ++ (codes "." ++ rest))
-
-abbrev pub is_one_of : List ℕ → ℕ → Bool
-is_one_of letters b = list_any (nat_eq b) letters
-
--- an address in lower case: where it lies, perhaps how wide it is, and its places
-pub data IsAddress : List ℕ → Type 0 where
-  plain : {area : ℕ} {places : List ℕ} → is_one_of (codes "iqm") area ≡ true → ArePlaces 8 places → IsAddress (codes "%" ++ area ∷ places)
-  sized : {area size : ℕ} {places : List ℕ} → is_one_of (codes "iqm") area ≡ true → is_one_of (codes "xbwdl") size ≡ true → ArePlaces 8 places
-      → IsAddress (codes "%" ++ area ∷ size ∷ places)
-
 -- the texts of the signs
 abbrev pub sign_texts : List (List ℕ)
 sign_texts = map (λ e. e.0) signs
@@ -46,7 +32,7 @@ IsToken kind.Keyword text = (is_keyword text ≡ true) × (is_truth text ≡ fal
 IsToken kind.Name text = (is_identifier text ≡ true) × (is_keyword text ≡ false)
 IsToken kind.Number text = (t : Ty) × (n : ℤ) × IsLiteral text t n
 IsToken kind.Digits text = (list_all is_decimal text ≡ true) × (0 < length text)
-IsToken kind.Address text = IsAddress (in_lower_case text)
+IsToken kind.Address text = IsAddress text
 IsToken kind.Sign text = list_any (bytes_eq text) sign_texts ≡ true
 
 -- ---- the pieces of a text

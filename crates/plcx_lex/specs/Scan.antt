@@ -8,7 +8,8 @@ use Rattle.plcx_types.specs.Name.{is_identifier, is_next_byte}
 use Rattle.plcx_types.specs.Numeral.{IsNumeral, IsWholeNumber}
 use Rattle.plcx_types.specs.Literal.{IsTruth, IsNumber}
 use Rattle.plcx_lex.specs.ReadNumber.{named}
-use Rattle.plcx_lex.specs.Lexis.{is_decimal, is_one_of, IsToken, Longest, IsPiece, IsBlank, NoComment}
+use Rattle.plcx_types.specs.Address.{is_one_of}
+use Rattle.plcx_lex.specs.Lexis.{is_decimal, IsToken, Longest, IsPiece, IsBlank, NoComment}
 use Rattle.plcx_lex.specs.Terminal.{Table, terminal_of, kind_of}
 use Rattle.plcx_lex.specs.declared.terminal.Terminal.{Terminal}
 use Rattle.plcx_lex.specs.declared.token.TextToken.{TextToken}

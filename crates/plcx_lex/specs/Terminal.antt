@@ -1,5 +1,5 @@
 -- What a token is in the grammar.
-use Rattle.std.specs.Prelude.{◌≡◌, ℕ, Bool, List, [], ◌∷◌, Option, Some, None, map, codes, if◌then◌else◌}
+use Rattle.std.specs.Prelude.{ℕ, Bool, List, [], ◌∷◌, codes, if◌then◌else◌}
 use Rattle.std.specs.Str.{bytes_eq, str_eq_ignore_ascii_case}
 use Rattle.plcx_lex.specs.declared.token.TokenKind.{TokenKind}
 use Rattle.plcx_lex.specs.declared.token.TokenKind.TheVariants as kind

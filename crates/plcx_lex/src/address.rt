@@ -2,7 +2,7 @@
 ghost use Rattle.std.specs.Prelude.{◌≡◌, codes};
 ghost use Rattle.std.specs.Char.{to_ascii_lowercase};
 ghost use Rattle.plcx_types.specs.Name.{in_lower_case};
-ghost use Rattle.plcx_lex.specs.Lexis.{is_one_of, ArePlaces, IsAddress};
+ghost use Rattle.plcx_types.specs.Address.{is_one_of, ArePlaces, IsAddressForm};
 ghost use Rattle.plcx_lex.specs.Scan.{Finds};
 
 use crate::runs::{Class, prefix, run_len};
@@ -40,7 +40,7 @@ fn places_len(most: usize, text: &[u8]) -> Option<usize>
 
 /// How long the longest address is.
 pub(crate) fn address_len(text: &[u8]) -> Option<usize>
-    ensures { Finds IsAddress (in_lower_case text.now) result }
+    ensures { Finds IsAddressForm (in_lower_case text.now) result }
 {
     if text.len() < 3 || text[0] != b'%' || !is_area(text[1]) {
         return None;

@@ -1,7 +1,7 @@
 //! The sign at the front of a text.
 ghost use Rattle.std.specs.Prelude.{◌≡◌, [], ◌∷◌, true, false, codes, MatchOption};
 ghost use Rattle.plcx_lex.specs.declared.token.TokenKind.TheVariants as kind;
-ghost use Rattle.plcx_lex.specs.Lexis.{is_one_of};
+ghost use Rattle.plcx_types.specs.Address.{is_one_of};
 ghost use Rattle.plcx_lex.specs.Terminal.{terminal_of, kind_of};
 ghost use Rattle.plcx_lex.specs.Scan.{NoneOf, LongestSign, Sign, is_pair, IsSign};
 

@@ -1,7 +1,8 @@
 use Rattle.std.proofs.Common.{◌+◌, ◌-◌, ◌<◌, ℕ, List, inl, inr, arith, subst}
 use Rattle.std.proofs.lemmas.List.{length-take}
 use Rattle.plcx_types.specs.Name.{in_lower_case}
-use Rattle.plcx_lex.specs.Lexis.{is_decimal, ArePlaces}
+use Rattle.plcx_types.specs.Address.{ArePlaces}
+use Rattle.plcx_lex.specs.Lexis.{is_decimal}
 use Rattle.plcx_lex.specs.Scan.{LongestOf, NoneOf, IsRun}
 use Rattle.plcx_lex.proofs.TypedScan.{rest_all}
 use Rattle.plcx_lex.proofs.PlaceScan.{places_none, places_digits, places_more}

@@ -36,6 +36,6 @@ loop-at-preserved c =
         kept_tokens bytes c.loop-at.out.items c.keep.new.out.items made.0 c.in-Some.terminal c.loop-at.at c.in-Some.n made.2 made.3 c.in_ok-keep.ensures,
       );
       told =
-        kept_told bytes c.loop-at.out.items c.keep.new.out.items c.in-Some.terminal c.loop-at.at c.in-Some.n c.loop-at.invariant.told c.in_ok-keep.ensures
-        (subst (λ (rest : List ℕ). IfSome c.in-Some.terminal (λ t. t ≡ terminal_of (kind_of t) (take c.in-Some.n rest))) (rest_all bytes c.loop-at.at) c.in-Some.ensures.terminal);
+          kept_told bytes c.loop-at.out.items c.keep.new.out.items c.in-Some.terminal c.loop-at.at c.in-Some.n c.loop-at.invariant.told c.in_ok-keep.ensures
+          (subst (λ (rest : List ℕ). IfSome c.in-Some.terminal (λ t. t ≡ terminal_of (kind_of t) (take c.in-Some.n rest))) (rest_all bytes c.loop-at.at) c.in-Some.ensures.terminal);
     }

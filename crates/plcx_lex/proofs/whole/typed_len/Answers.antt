@@ -1,7 +1,7 @@
 use Rattle.std.proofs.Common.{◌+◌, ℕ, List, arith, sym, ◌∙◌, subst}
 use Rattle.std.proofs.lemmas.List.{length-take}
-use Rattle.plcx_types.specs.Name.{in_lower_case, is_next_byte}
-use Rattle.plcx_lex.specs.Scan.{LongestOf, NoneOf, Number, IsRun}
+use Rattle.plcx_types.specs.Name.{in_lower_case}
+use Rattle.plcx_lex.specs.Scan.{LongestOf, NoneOf, Number}
 use Rattle.plcx_lex.proofs.TypedScan.{rest_all, typed_found, typed_unfound, typed_unnamed, typed_unmarked}
 use Rattle.plcx_lex.proofs.whole.typed_len.Goals.{then-n-text-via-then-n-text, then-n-text-via-else-n-text+then-text-n-ne35}
 use Rattle.plcx_lex.proofs.whole.typed_len.Goals as goal
