@@ -6,7 +6,7 @@ use Rattle.plcx_lex.specs.declared.token.TextToken.{TextToken}
 use Rattle.std.proofs.lemmas.List.Elements.{All-append, All-nil, All-cons}
 use Rattle.plcx_lex.specs.declared.token.TokenKind.{TokenKind}
 use Rattle.plcx_lex.specs.Token.{Token}
-use Rattle.plcx_lex.specs.Lexis.{Piece, IsPiece, Covers, total, token_at, tokens_from, AreTokens, spelt, IsLexPlace, ClosesAt}
+use Rattle.plcx_lex.specs.Lexis.{Piece, IsPiece, Covers, total, token_at, tokens_from, AreTextTokens, spelt, IsLexPlace, ClosesAt}
 use Rattle.plcx_lex.specs.Scan.{NoPiece, placed}
 use Rattle.plcx_lex.specs.Terminal.{terminal, terminal_of, kind_of}
 use Rattle.plcx_lex.specs.declared.terminal.Terminal.{Terminal}
@@ -84,7 +84,7 @@ one_made bytes (p ∷ ps) (q ∷ qs) c d same =
     let later = one_made (drop p.1 bytes) ps qs c.1 (subst (λ n. Covers (drop n bytes) qs) (sym one.1) d.1) (omega (arith, one.1)) in
     ap (λ x. x ∷ ps) head ∙ ap (λ xs. q ∷ xs) later
 
-pub one_tokens : (bytes : List ℕ) (ts us : List Token) → AreTokens bytes ts → AreTokens bytes us → ts ≡ us
+pub one_tokens : (bytes : List ℕ) (ts us : List Token) → AreTextTokens bytes ts → AreTextTokens bytes us → ts ≡ us
 one_tokens bytes ts us a b = a.2 ∙ ap (tokens_from 0 bytes) (one_made bytes a.0 b.0 a.1.0 b.1.0 (a.1.1 ∙ sym b.1.1)) ∙ sym b.2
 
 -- ---- what the loop knows

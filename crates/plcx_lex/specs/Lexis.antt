@@ -110,8 +110,8 @@ tokens_from at bytes [] = []
 tokens_from at bytes (p ∷ ps) = token_at at bytes p.0 p.1 (tokens_from (at + p.1) (drop p.1 bytes) ps)
 
 -- the bytes are made of these tokens and of what parts them
-abbrev pub AreTokens : List ℕ → List Token → Type 0
-AreTokens bytes ts = (ps : List Piece) × IsMade bytes ps × (ts ≡ tokens_from 0 bytes ps)
+abbrev pub AreTextTokens : List ℕ → List Token → Type 0
+AreTextTokens bytes ts = (ps : List Piece) × IsMade bytes ps × (ts ≡ tokens_from 0 bytes ps)
 
 -- a token of a source, with its text
 abbrev pub spelt : List ℕ → TextToken → Token

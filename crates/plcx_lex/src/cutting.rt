@@ -1,6 +1,6 @@
 //! The tokens of a text.
 ghost use Rattle.std.specs.Prelude.{◌≡◌, ◌≤◌, ◌+◌, ◌++◌, ℕ, length, map, MatchResult, IfOk, OnOk, All};
-ghost use Rattle.plcx_lex.specs.Lexis.{AreTokens, spelt};
+ghost use Rattle.plcx_lex.specs.Lexis.{AreTextTokens, spelt};
 ghost use Rattle.plcx_lex.specs.Fails.{LexFails};
 ghost use Rattle.plcx_lex.specs.Terminal.{terminal};
 ghost use Rattle.plcx_lex.specs.Scan.{placed};
@@ -33,7 +33,7 @@ fn keep(
 
 /// The tokens that a text is made of, or the end of its longest prefix that is made of tokens and of what parts them.
 pub fn tokens(alloc: Global, bytes: &[u8]) -> Result<Vec<TextToken>, TextError>
-    ensures tokens { MatchResult result (λ found. AreTokens bytes.now (map (spelt bytes.now) found.items)) (LexFails bytes.now) }
+    ensures tokens { MatchResult result (λ found. AreTextTokens bytes.now (map (spelt bytes.now) found.items)) (LexFails bytes.now) }
     ensures terminals { IfOk result (λ found. All (λ t. t.terminal ≡ terminal (spelt bytes.now t)) found.items) }
 {
     let mut out = Vec::new(alloc);

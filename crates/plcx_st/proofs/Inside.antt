@@ -24,8 +24,9 @@ use Rattle.plcx_lex.specs.declared.token.TokenKind.{TokenKind}
 use Rattle.plcx_lex.specs.declared.token.TokenKind.TheVariants as kind
 use Rattle.plcx_lex.specs.Number as typed
 use Rattle.plcx_lex.specs.Number.{IsTyped}
-use Rattle.plcx_lex.specs.Lexis as lexis
-use Rattle.plcx_lex.specs.Lexis.{is_decimal, is_one_of, ArePlaces, IsAddress, sign_texts, IsToken}
+use Rattle.plcx_types.specs.Address as address
+use Rattle.plcx_types.specs.Address.{is_one_of, ArePlaces, IsAddressForm}
+use Rattle.plcx_lex.specs.Lexis.{is_decimal, sign_texts, IsToken}
 
 -- ---- lists
 
@@ -226,12 +227,12 @@ digit_place : (b : ℕ) → is_digit 10 b ≡ true → is_place b ≡ true
 digit_place b h = grind (arith, nat_tests)
 
 places_bytes : {most : ℕ} {text : List ℕ} → ArePlaces most text → list_all is_place text ≡ true
-places_bytes (lexis.last {digits = digits} d) = all_weaken (is_digit 10) is_place digits digit_place d.all
-places_bytes (lexis.more {digits = digits} {rest = rest} d h) = all_append is_place digits (codes "." ++ rest) (all_weaken (is_digit 10) is_place digits digit_place d.all) (places_bytes h)
+places_bytes (address.last {digits = digits} d) = all_weaken (is_digit 10) is_place digits digit_place d.all
+places_bytes (address.more {digits = digits} {rest = rest} d h) = all_append is_place digits (codes "." ++ rest) (all_weaken (is_digit 10) is_place digits digit_place d.all) (places_bytes h)
 
-pub address_bytes : {text : List ℕ} → IsAddress text → list_all is_place text ≡ true
-address_bytes (lexis.plain {area = area} {places = places} a h) = and_from (is_place area) (list_all is_place places) (member_test is_place (codes "iqm") area refl a) (places_bytes h)
-address_bytes (lexis.sized {area = area} {size = size} {places = places} a s h) =
+pub address_bytes : {text : List ℕ} → IsAddressForm text → list_all is_place text ≡ true
+address_bytes (address.plain {area = area} {places = places} a h) = and_from (is_place area) (list_all is_place places) (member_test is_place (codes "iqm") area refl a) (places_bytes h)
+address_bytes (address.sized {area = area} {size = size} {places = places} a s h) =
     and_from (is_place area) (is_place size && list_all is_place places) (member_test is_place (codes "iqm") area refl a)
     (and_from (is_place size) (list_all is_place places) (member_test is_place (codes "xbwdl") size refl s) (places_bytes h))
 
@@ -240,9 +241,9 @@ abbrev pub head : List ℕ → ℕ
 head [] = 0
 head (b ∷ bs) = b
 
-pub address_head : {text : List ℕ} → IsAddress text → head text ≡ 37
-address_head (lexis.plain a h) = refl
-address_head (lexis.sized a s h) = refl
+pub address_head : {text : List ℕ} → IsAddressForm text → head text ≡ 37
+address_head (address.plain a h) = refl
+address_head (address.sized a s h) = refl
 
 behind_head : (t : Ty) (text : List ℕ) → is_next_byte (head (type_word t ++ (codes "#" ++ text))) ≡ true
 behind_head ty.Bool text = refl
