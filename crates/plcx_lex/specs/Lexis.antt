@@ -19,6 +19,7 @@ use Rattle.plcx_lex.specs.declared.token.TokenKind.TheVariants as kind
 abbrev pub is_truth : List ℕ → Bool
 is_truth text = bytes_eq (in_lower_case text) (codes "true") || bytes_eq (in_lower_case text) (codes "false")
 
+-- a decimal digit
 abbrev pub is_decimal : ℕ → Bool
 is_decimal b = is_between 48 57 b
 
@@ -37,6 +38,7 @@ IsToken kind.Sign text = list_any (bytes_eq text) sign_texts ≡ true
 
 -- ---- the pieces of a text
 
+-- a space, a tab, a carriage return or a line feed
 abbrev pub is_blank : ℕ → Bool
 is_blank b = is_one_of (32 ∷ 9 ∷ 13 ∷ 10 ∷ []) b
 
@@ -62,9 +64,11 @@ pub record IsLine (bytes : List ℕ) (n : ℕ) : Type 0 where
   pub ends : n < length bytes → slice_index bytes n ≡ 10
   pub first : (m : ℕ) → 2 ≤ m → m < n → slice_index bytes m ≡ 10 → ⊥
 
+-- a comment of n bytes stands at the front
 abbrev pub IsComment : List ℕ → ℕ → Type 0
 IsComment bytes n = IsBracketed bytes n ⊎ IsLine bytes n
 
+-- one blank stands at the front
 abbrev pub IsBlank : List ℕ → ℕ → Type 0
 IsBlank bytes n = (n ≡ 1) × (0 < length bytes) × (is_blank (slice_index bytes 0) ≡ true)
 
@@ -74,6 +78,7 @@ pub record Longest (bytes : List ℕ) (k : TokenKind) (n : ℕ) : Type 0 where
   pub formed : IsToken k (take n bytes)
   pub longest : (m : ℕ) (other : TokenKind) → n < m → m ≤ length bytes → IsToken other (take m bytes) → ⊥
 
+-- no comment stands at the front
 abbrev pub NoComment : List ℕ → Type 0
 NoComment bytes = (n : ℕ) → IsComment bytes n → ⊥
 
@@ -86,10 +91,12 @@ IsPiece bytes (Some k) n = Longest bytes k n × NoComment bytes
 abbrev pub Piece : Type 0
 Piece = Option TokenKind × ℕ
 
+-- the pieces stand one behind the other from the front on
 abbrev pub Covers : List ℕ → List Piece → Type 0
 Covers bytes [] = Unit {0}
 Covers bytes (p ∷ ps) = IsPiece bytes p.0 p.1 × Covers (drop p.1 bytes) ps
 
+-- how many bytes the pieces have
 abbrev pub total : List Piece → ℕ
 total [] = 0
 total (p ∷ ps) = p.1 + total ps
@@ -105,6 +112,7 @@ abbrev pub token_at : ℕ → List ℕ → Option TokenKind → ℕ → List Tok
 token_at at bytes None n ts = ts
 token_at at bytes (Some k) n ts = record { kind = k; text = take n bytes; span = record { start = at; end = at + n } } ∷ ts
 
+-- the tokens among the pieces, of which the first stands at this offset
 abbrev pub tokens_from : ℕ → List ℕ → List Piece → List Token
 tokens_from at bytes [] = []
 tokens_from at bytes (p ∷ ps) = token_at at bytes p.0 p.1 (tokens_from (at + p.1) (drop p.1 bytes) ps)

@@ -15,6 +15,7 @@ use Rattle.plcx_types.specs.ReadLiteral.{truth, number_behind}
 abbrev pub named : List ℕ → Option Ty
 named word = if bytes_eq word (codes "t") then Some ty.Time else find (λ t. bytes_eq word (type_word t)) all_types
 
+-- a number with its type
 abbrev pub of_type : Option ℤ → Ty → Option (Ty × ℤ)
 of_type n t = option_map (λ n. (t, n)) n
 
@@ -27,5 +28,6 @@ behind_word word (b ∷ rest) = if nat_eq b 35 then option_and_then (λ t. of_ty
 unfoldable pub typed_of : List ℕ → Option (Ty × ℤ)
 typed_of text = behind_word (front is_next_byte text) (back is_next_byte text)
 
+-- the same of a text in any case
 abbrev pub literal_of : List ℕ → Option (Ty × ℤ)
 literal_of text = typed_of (in_lower_case text)

@@ -49,6 +49,7 @@ After word Form text = (rest : List ℕ) × (text ≡ word ++ rest) × Form rest
 
 -- ---- runs of bytes
 
+-- the bytes of a class
 abbrev pub belongs : Class → ℕ → Bool
 belongs class.Part b = is_next_byte b
 belongs class.Decimal b = is_decimal b
@@ -62,12 +63,15 @@ pub record IsRun (passes : ℕ → Bool) (text : List ℕ) (n : ℕ) : Type 0 wh
 
 -- ---- numbers, in lower case
 
+-- a numeral of the base
 abbrev pub Numeral : ℕ → List ℕ → Type 0
 Numeral base text = (n : ℕ) × IsNumeral base text n
 
+-- a whole number
 abbrev pub Whole : List ℕ → Type 0
 Whole text = (n : ℤ) × IsWholeNumber text n
 
+-- TRUE or FALSE
 abbrev pub Truth : List ℕ → Type 0
 Truth text = (n : ℤ) × IsTruth text n
 
@@ -75,6 +79,7 @@ Truth text = (n : ℤ) × IsTruth text n
 abbrev pub is_end : ℕ → ℕ → Bool
 is_end b c = (is_decimal b && is_one_of (codes "dhms") c) || (nat_eq b 109 && nat_eq c 115)
 
+-- a number of the type
 abbrev pub Number : Ty → List ℕ → Type 0
 Number t text = (n : ℤ) × IsNumber t text n
 
@@ -84,6 +89,7 @@ Typed text = (t : Ty) × (word : List ℕ) × (rest : List ℕ) × (text ≡ wor
 
 -- ---- tokens
 
+-- the form of a name
 abbrev pub Word : List ℕ → Type 0
 Word text = is_identifier text ≡ true
 
@@ -91,9 +97,11 @@ Word text = is_identifier text ≡ true
 abbrev pub is_pair : ℕ → ℕ → Bool
 is_pair b c = (nat_eq b 58 && nat_eq c 61) || (nat_eq b 60 && nat_eq c 62) || (nat_eq b 60 && nat_eq c 61) || (nat_eq b 62 && nat_eq c 61)
 
+-- a sign
 abbrev pub Sign : List ℕ → Type 0
 Sign text = IsToken kind.Sign text
 
+-- a token of any kind
 abbrev pub AnyToken : List ℕ → Type 0
 AnyToken text = (k : TokenKind) × IsToken k text
 

@@ -47,6 +47,7 @@ terminal_of kind.Number text = t.Number
 terminal_of kind.Digits text = t.Digits
 terminal_of kind.Address text = t.Address
 
+-- what a token is in the grammar
 unfoldable pub terminal : Token → Terminal
 terminal w = terminal_of w.kind w.text
 

@@ -3,7 +3,9 @@ ghost use Rattle.std.specs.Prelude.{◌≡◌, true, map};
 ghost use Rattle.std.specs.Str.{str_eq_ignore_ascii_case};
 ghost use Rattle.plcx_types.specs.Name.{is_identifier};
 ghost use Rattle.plcx_lex.specs.Scan.{told, IsTold};
-ghost use Rattle.plcx_lex.specs.Terminal.{words};
+ghost use Rattle.plcx_lex.specs.Terminal.{words, kind_of};
+
+use crate::token::TokenKind;
 
 /// What a token is in the grammar: a word, a sign, or one of a kind of tokens.
 #[derive(Clone, Copy, Debug, PartialEq, Eq)]
@@ -58,6 +60,38 @@ pub enum Terminal {
     Address,
     /// A keyword that the grammar has no use for.
     Other,
+}
+
+impl Terminal {
+    /// The kind of the tokens that are this.
+    pub fn kind(self) -> TokenKind
+        ensures { result ≡ kind_of self }
+    {
+        match self {
+            Terminal::Name => TokenKind::Name,
+            Terminal::Number => TokenKind::Number,
+            Terminal::Digits => TokenKind::Digits,
+            Terminal::Address => TokenKind::Address,
+            Terminal::Assign
+            | Terminal::Colon
+            | Terminal::Semicolon
+            | Terminal::Comma
+            | Terminal::Dot
+            | Terminal::Open
+            | Terminal::Close
+            | Terminal::Plus
+            | Terminal::Minus
+            | Terminal::Times
+            | Terminal::Divide
+            | Terminal::Equal
+            | Terminal::NotEqual
+            | Terminal::Less
+            | Terminal::Greater
+            | Terminal::LessOrEqual
+            | Terminal::GreaterOrEqual => TokenKind::Sign,
+            _ => TokenKind::Keyword,
+        }
+    }
 }
 
 /// The keywords, and what each is in the grammar.

@@ -1,3 +1,4 @@
+-- What the contracts of public functions say.
 pub mod Grammar
 pub mod Place
 pub mod Meant
@@ -5,5 +6,6 @@ pub mod Print
 pub mod Depth
 pub mod Fitting
 pub mod InRange
-pub mod Printer
 pub mod Stands
+-- What serves proofs alone: how the printer's buffer grows.
+pub mod Printer

@@ -12,6 +12,7 @@ use Rattle.plcx_st.specs.declared.tree.Arm.{Arm}
 use Rattle.plcx_st.specs.Meant.{stmt_meant}
 use Rattle.plcx_st.specs.Print.{Shape, is_among, none_behind, none_before, Line, line_text}
 
+-- what a token of the kind is to the one behind it
 abbrev pub last_kind : TokenKind → Last
 last_kind kind.Name = last.Name
 last_kind kind.Digits = last.Digits
@@ -37,6 +38,7 @@ unfoldable pub text_after : Last → List Shape → List ℕ
 text_after l [] = []
 text_after l (b ∷ shapes) = (if joins l b.text then [] else codes " ") ++ (b.text ++ text_after (last_of b) shapes)
 
+-- how the last line ends behind these tokens
 unfoldable pub last_after : Last → List Shape → Last
 last_after l [] = l
 last_after l (b ∷ shapes) = last_after (last_of b) shapes

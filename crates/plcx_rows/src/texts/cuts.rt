@@ -22,7 +22,7 @@ fn told(alloc: Global, text: &[u8]) -> Result<Vec<u8>, Fail> {
     match tokens(alloc, text) {
         Ok(found) => {
             for token in &found {
-                lines.push(letter(token.kind))?;
+                lines.push(letter(token.terminal.kind()))?;
                 let start = token.span.start as usize;
                 let end = token.span.end as usize;
                 if start <= end && end <= text.len() {
