@@ -1,15 +1,17 @@
 -- What tells addresses.
 use Rattle.std.proofs.Common.{◌≡◌, ◌⊎◌, ◌<◌, ◌≤◌, ◌-◌, ℕ, zero, suc, Bool, true, false, inl, inr, List, [], ◌∷◌, ◌++◌, length, drop, get_or, Some, None, Option, refl, ap, arith, sym, ◌∙◌, subst, append-nil, sub-one}
 use Rattle.std.specs.Char.{to_ascii_lowercase}
-use Rattle.std.proofs.lemmas.Bool.{cases_Bool, both_ways}
+use Rattle.std.proofs.lemmas.Bool.{cases_Bool, both_ways, and_parts, and_from, le-leb, leb-true, eqb-true, false_from_ne_true}
 use Rattle.std.proofs.lemmas.Bool.Decides.{nat_tests}
 use Rattle.std.proofs.lemmas.List.{length-map}
-use Rattle.std.specs.Prelude.{codes, IsTrue, ◌↔◌}
+use Rattle.std.specs.Prelude.{codes, IsTrue, ◌↔◌, ◌&&◌, nat_le, nat_eq}
+use Rattle.std.specs.List.{list_all}
 use Rattle.plcx_types.specs.Address.{is_one_of, ArePlaces, last, more, IsAddressForm, plain, sized, IsAddress}
 use Rattle.plcx_types.specs.Name.{in_lower_case}
 use Rattle.plcx_types.specs.Duration.{AreDigits}
 use Rattle.plcx_types.specs.Numeral.{is_digit}
 use Rattle.plcx_types.specs.Reading.{behind, front, back}
+use Rattle.plcx_types.specs.ReadAddress.{goes_on, ends_or, are_few, are_places, is_address_form, is_address}
 use Rattle.plcx_types.proofs.BehindWord.{behind_again, behind_is}
 use Rattle.plcx_types.proofs.PartShape.{front_all, back_all, front_passes, front_back}
 
@@ -27,8 +29,8 @@ pub record Parts (most : ℕ) (text : List ℕ) : Type 0 where
 
 alone : (digits : List ℕ) → AreDigits 9 digits → (digits_of digits ≡ digits) × (rest_of digits ≡ [])
 alone digits are = (
-    subst (λ t. digits_of t ≡ digits) (append-nil digits) (front_all (is_digit 10) digits [] are.all refl),
-    subst (λ t. rest_of t ≡ []) (append-nil digits) (back_all (is_digit 10) digits [] are.all refl),
+  subst (λ t. digits_of t ≡ digits) (append-nil digits) (front_all (is_digit 10) digits [] are.all refl),
+  subst (λ t. rest_of t ≡ []) (append-nil digits) (back_all (is_digit 10) digits [] are.all refl),
 )
 
 pub parts_of : {most : ℕ} {text : List ℕ} → ArePlaces most text → Parts most text
@@ -169,17 +171,19 @@ after_two (a ∷ b ∷ c ∷ rest) long = refl
 pub tested_sized : (text : List ℕ) (result : Bool) → 3 ≤ length text → get_or text 0 0 ≡ 37 → is_one_of (codes "iqm") (to_ascii_lowercase (get_or text 1 0)) ≡ true → is_one_of (codes "xbwdl") (to_ascii_lowercase (get_or text 2 0)) ≡ true
     → (IsTrue result ↔ ArePlaces 8 (in_lower_case (drop 3 text))) → IsTrue result ↔ IsAddress text
 tested_sized text result long mark lies wide places =
-    let whole = letters_at text long mark in
-    ((λ yes. subst IsAddressForm (sym whole) (sized lies wide (places.0 yes))),
-     (λ is. places.1 (with_size _ _ _ wide (subst IsAddressForm whole is))))
+    let whole = letters_at text long mark in (
+      (λ yes. subst IsAddressForm (sym whole) (sized lies wide (places.0 yes))),
+      (λ is. places.1 (with_size _ _ _ wide (subst IsAddressForm whole is))),
+    )
 
 pub tested_plain : (text : List ℕ) (result : Bool) → 3 ≤ length text → get_or text 0 0 ≡ 37 → is_one_of (codes "iqm") (to_ascii_lowercase (get_or text 1 0)) ≡ true → is_one_of (codes "xbwdl") (to_ascii_lowercase (get_or text 2 0)) ≡ false
     → (IsTrue result ↔ ArePlaces 8 (in_lower_case (drop 2 text))) → IsTrue result ↔ IsAddress text
 tested_plain text result long mark lies other places =
     let whole = letters_at text long mark in
-    let rest = after_two text long in
-    ((λ yes. subst IsAddressForm (sym whole) (plain lies (subst (ArePlaces 8) rest (places.0 yes)))),
-     (λ is. places.1 (subst (ArePlaces 8) (sym rest) (without_size _ _ _ other (subst IsAddressForm whole is)))))
+    let rest = after_two text long in (
+      (λ yes. subst IsAddressForm (sym whole) (plain lies (subst (ArePlaces 8) rest (places.0 yes)))),
+      (λ is. places.1 (subst (ArePlaces 8) (sym rest) (without_size _ _ _ other (subst IsAddressForm whole is)))),
+    )
 
 -- what has not the bytes of an address is none
 pub untested : (text : List ℕ) → (3 ≤ length text → get_or text 0 0 ≡ 37 → is_one_of (codes "iqm") (to_ascii_lowercase (get_or text 1 0)) ≡ true → ⊥) → IsAddress text → ⊥
@@ -187,6 +191,7 @@ untested text none is = go text (headed is) none
   where
     marked : (b : ℕ) → to_ascii_lowercase b ≡ 37 → b ≡ 37
     marked b h = grind (arith, nat_tests)
+
     go : (t : List ℕ) → Headed (in_lower_case t) → (3 ≤ length t → get_or t 0 0 ≡ 37 → is_one_of (codes "iqm") (to_ascii_lowercase (get_or t 1 0)) ≡ true → ⊥) → ⊥
     go [] h none = let is = h.is in cc
     go (a ∷ []) h none = let is = h.is in cc
@@ -196,3 +201,63 @@ untested text none is = go text (headed is) none
         let first : to_ascii_lowercase a ≡ 37 = cc in
         let second : h.area ≡ to_ascii_lowercase b = cc in
         none (omega arith) (marked a first) (subst (λ x. is_one_of (codes "iqm") x ≡ true) second h.lies)
+
+-- ---- the test
+
+few_is : (digits : List ℕ) → list_all (is_digit 10) digits ≡ true → are_few digits ≡ true → AreDigits 9 digits
+few_is digits all few = let p = and_parts (nat_le 1 (length digits)) (nat_le (length digits) 9) few in record { all = all; some = leb-true 1 (length digits) p.0; few = leb-true (length digits) 9 p.1 }
+
+few_reads : (digits : List ℕ) → AreDigits 9 digits → are_few digits ≡ true
+few_reads digits are = and_from (nat_le 1 (length digits)) (nat_le (length digits) 9) (le-leb 1 (length digits) are.some) (le-leb (length digits) 9 are.few)
+
+pub places_read : (most : ℕ) (text : List ℕ) → ArePlaces most text → are_places most text ≡ true
+unfolding are_places
+places_read zero text places = absurd (let p = parts_of places in let some = p.some in omega arith)
+places_read (suc most) text places =
+    let p = parts_of places in
+    and_from (are_few (digits_of text)) _ (few_reads (digits_of text) p.digits) (elim p.goes [
+      | inl ends ↦ ap (ends_or (are_places most)) ends
+      | inr others ↦ ap (ends_or (are_places most)) others.1 ∙ places_read most others.0 (subst (λ n. ArePlaces n others.0) (sub-one (suc most)) others.2)
+    ])
+
+module _ (most : ℕ) (text : List ℕ) (again : (rest : List ℕ) → are_places most rest ≡ true → ArePlaces most rest) (are : AreDigits 9 (digits_of text)) where
+  point_goes : (o : Option (List ℕ)) → behind (codes ".") (rest_of text) ≡ o → goes_on (are_places most) o ≡ true → ArePlaces (suc most) text
+  point_goes None is passes = absurd (cc)
+  point_goes (Some others) is passes = more_places (suc most) text others (omega arith) are is (subst (λ n. ArePlaces n others) (sym (sub-one (suc most))) (again others passes))
+
+  rest_goes : (rest : List ℕ) → rest_of text ≡ rest → ends_or (are_places most) rest ≡ true → ArePlaces (suc most) text
+  rest_goes [] is passes = last_place (suc most) text (omega arith) are is
+  rest_goes (b ∷ bs) is passes = point_goes (behind (codes ".") (b ∷ bs)) (ap (behind (codes ".")) is) passes
+
+pub places_are : (most : ℕ) (text : List ℕ) → are_places most text ≡ true → ArePlaces most text
+unfolding are_places
+places_are zero text h = absurd (cc)
+places_are (suc most) text h =
+    let p = and_parts (are_few (digits_of text)) (ends_or (are_places most) (rest_of text)) h in
+    rest_goes most text (places_are most) (few_is (digits_of text) (front_passes (is_digit 10) text) p.0) (rest_of text) refl p.1
+
+form_reads : (text : List ℕ) → IsAddressForm text → is_address_form text ≡ true
+unfolding is_address_form
+form_reads text is =
+    let h = headed is in
+    subst (λ t. is_address_form t ≡ true) (sym h.is) (and_from (is_one_of (codes "iqm") h.area) _ h.lies (elim (cases_Bool (is_one_of (codes "xbwdl") h.next)) [
+      | inl wide ↦ rw wide (places_read 8 h.rest (with_size h.area h.next h.rest wide (subst IsAddressForm h.is is)))
+      | inr other ↦ rw other (places_read 8 (h.next ∷ h.rest) (without_size h.area h.next h.rest other (subst IsAddressForm h.is is)))
+    ]))
+
+form_is : (text : List ℕ) → is_address_form text ≡ true → IsAddressForm text
+unfolding is_address_form
+form_is [] h = absurd (cc)
+form_is (mark ∷ []) h = absurd (cc)
+form_is (mark ∷ area ∷ []) h = absurd (cc)
+form_is (mark ∷ area ∷ next ∷ rest) h =
+    let p = and_parts (nat_eq mark 37 && is_one_of (codes "iqm") area) _ h in
+    let q = and_parts (nat_eq mark 37) (is_one_of (codes "iqm") area) p.0 in
+    subst (λ m. IsAddressForm (m ∷ area ∷ next ∷ rest)) (sym (eqb-true mark 37 q.0)) (elim (cases_Bool (is_one_of (codes "xbwdl") next)) [
+      | inl wide ↦ sized q.1 wide (places_are 8 rest (rw wide at p.1))
+      | inr other ↦ plain q.1 (places_are 8 (next ∷ rest) (rw other at p.1))
+    ])
+
+pub same_test : (text : List ℕ) (result : Bool) → (IsTrue result ↔ IsAddress text) → result ≡ is_address text
+same_test text true is = sym (form_reads (in_lower_case text) (is.0 refl))
+same_test text false is = sym (false_from_ne_true (is_address text) (λ h. both_ways false refl (is.1 (form_is (in_lower_case text) h))))

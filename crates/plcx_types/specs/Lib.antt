@@ -16,3 +16,4 @@ pub mod Address
 pub mod Reading
 pub mod ReadLiteral
 pub mod ReadConversion
+pub mod ReadAddress

@@ -1,5 +1,5 @@
 -- The numbers of each type.
-use Rattle.std.specs.Prelude.{◌-◌, ◌^◌, ◌≤ℤ◌, ℕ, ℤ, pos, negsuc, Bool, if◌then◌else◌}
+use Rattle.std.specs.Prelude.{◌-◌, ◌^◌, ◌≤ℤ◌, ℕ, ℤ, pos, negsuc, if◌then◌else◌}
 use Rattle.plcx_types.specs.declared.ty.Ty.{Ty}
 use Rattle.plcx_types.specs.declared.ty.Bounds.{Bounds}
 use Rattle.plcx_types.specs.ElementaryTypes.{row_of}

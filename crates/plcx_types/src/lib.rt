@@ -21,7 +21,7 @@ mod span;
 mod ty;
 mod val;
 
-pub use address::is_address;
+pub use address::{is_address, is_area, is_size};
 pub use conversion::conversion_named;
 pub use fault::Fault;
 pub use ident::{Ident, IdentError, is_identifier, same_name};

@@ -6,11 +6,11 @@ ghost use Rattle.plcx_types.specs.Name.{in_lower_case};
 ghost use Rattle.plcx_types.specs.Reading.{GivesRest};
 ghost use Rattle.plcx_types.specs.TypeName.{all_types};
 ghost use Rattle.plcx_types.specs.Literal.{value, StandsForLiteral, StandsForValue};
-ghost use Rattle.plcx_types.specs.ReadLiteral.{truth, number_behind, of_type, typed, behind_name, typed_or_whole, timed_or_other, literal_of};
+ghost use Rattle.plcx_types.specs.ReadLiteral.{truth, number_behind, of_type, typed, behind_name, typed_or_whole, timed_or_other, literal_of, as_value, value_of};
 ghost use Rattle.plcx_types.specs.Value.{Value};
-ghost use Rattle.plcx_types.specs.Literal.{IsValueOf, IsNumber};
+ghost use Rattle.plcx_types.specs.Literal.{IsNumber};
+ghost use Rattle.std.specs.Result.{result_ok};
 ghost use Rattle.plcx_types.specs.declared.literal.Literal.{Literal};
-ghost use Rattle.plcx_types.specs.declared.literal.Literal.TheVariants.{Whole};
 
 use crate::duration::time;
 use crate::numeral::whole;
@@ -127,33 +127,37 @@ pub fn read_literal(text: &[u8]) -> Result<Literal, NotLiteral>
     literal_of(text).ok_or(NotLiteral)
 }
 
-fn whole_value(ty: Ty, n: i128) -> Option<Val>
-    ensures some { IfSome result (λ value. IsValueOf ty (Whole n) value) }
-    ensures none { IfNone result ((value : Value) → IsValueOf ty (Whole n) value → ⊥) }
-{
-    match ty {
-        Ty::Time => None,
-        _ => Val::new(ty, n),
-    }
-}
-
+#[tactic(auto, unfolding(crate::specs::ReadLiteral::as_value))]
 fn as_value(ty: Ty, literal: Literal) -> Option<Val>
-    ensures some { IfSome result (λ value. IsValueOf ty literal value) }
-    ensures none { IfNone result ((value : Value) → IsValueOf ty literal value → ⊥) }
+    ensures { result ≡ as_value ty literal }
 {
     match literal {
         Literal::Typed(value) => value.of_type(ty),
-        Literal::Whole(n) => whole_value(ty, n),
+        Literal::Whole(n) => {
+            if ty == Ty::Time {
+                None
+            } else {
+                Val::new(ty, n)
+            }
+        }
     }
 }
 
+fn value_of(ty: Ty, text: &[u8]) -> Option<Val>
+    ensures { result ≡ value_of ty text.now }
+{
+    let literal = literal_of(text)?;
+    as_value(ty, literal)
+}
+
 /// The value of the type that a text is: a typed literal of it, or a whole number in its range. A whole number is no length of time.
+#[tactic(auto, using(crate::proofs::Literals::value_is))]
 pub fn read_value(ty: Ty, text: &[u8]) -> Result<Val, NotLiteral>
     ensures ok { IfOk result (λ value. StandsForValue ty text.now value) }
     ensures none { IfErr result (λ _. (value : Value) → StandsForValue ty text.now value → ⊥) }
+    ensures value { result_ok result ≡ value_of ty text.now }
 {
-    let literal = read_literal(text)?;
-    as_value(ty, literal).ok_or(NotLiteral)
+    value_of(ty, text).ok_or(NotLiteral)
 }
 
 #[cfg(test)]

@@ -88,7 +88,6 @@ fn is_type(word: &[u8]) -> bool
     Ty::named(word).is_some()
 }
 
-
 fn is_conversion(word: &[u8]) -> bool
     ensures { result ≡ is_conversion word.now }
 {

@@ -1,6 +1,7 @@
 //! Values: each a number of its type.
-ghost use Rattle.std.specs.Prelude.{◌≡◌, ◌≢◌, ◌↔◌, pos, IsTrue, IfSome, IfNone};
+ghost use Rattle.std.specs.Prelude.{◌≡◌, ◌↔◌, pos, IsTrue, IfSome, IfNone, Some, None, if◌then◌else◌};
 ghost use Rattle.plcx_types.specs.Range.{InRange};
+ghost use Rattle.plcx_types.specs.TypeName.{same_ty};
 
 use crate::ty::{Bounds, Ty};
 use std::marker::Model;
@@ -71,8 +72,7 @@ impl Val {
 
     /// The value itself, where it is of the type.
     pub(crate) fn of_type(self, ty: Ty) -> Option<Val>
-        ensures some { IfSome result (λ value. (value ≡ self) × (value.ty ≡ ty)) }
-        ensures none { IfNone result (self.ty ≢ ty) }
+        ensures { result ≡ (if same_ty self.ty ty then Some self else None) }
     {
         if self.ty == ty { Some(self) } else { None }
     }
