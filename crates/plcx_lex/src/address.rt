@@ -1,25 +1,10 @@
 //! How long the address at the front of a text is.
-ghost use Rattle.std.specs.Prelude.{◌≡◌, codes};
-ghost use Rattle.std.specs.Char.{to_ascii_lowercase};
 ghost use Rattle.plcx_types.specs.Name.{in_lower_case};
-ghost use Rattle.plcx_types.specs.Address.{is_one_of, ArePlaces, IsAddressForm};
+ghost use Rattle.plcx_types.specs.Address.{ArePlaces, IsAddressForm};
 ghost use Rattle.plcx_lex.specs.Scan.{Finds};
 
 use crate::runs::{Class, prefix, run_len};
-
-fn is_area(byte: u8) -> bool
-    ensures { result ≡ is_one_of (codes "iqm") (to_ascii_lowercase byte) }
-{
-    let letter = byte.to_ascii_lowercase();
-    letter == b'i' || letter == b'q' || letter == b'm'
-}
-
-fn is_size(byte: u8) -> bool
-    ensures { result ≡ is_one_of (codes "xbwdl") (to_ascii_lowercase byte) }
-{
-    let letter = byte.to_ascii_lowercase();
-    letter == b'x' || letter == b'b' || letter == b'w' || letter == b'd' || letter == b'l'
-}
+use plcx_types::{is_area, is_size};
 
 /// How long the longest list of places is.
 fn places_len(most: usize, text: &[u8]) -> Option<usize>
