@@ -1,4 +1,5 @@
-use crate::text::read;
+//! Units that texts are.
+use plcx_read::read;
 use plcx_lex::{TextError, tokens};
 use plcx_st::{Expr, Mark, Op, Stmt, TextBlock, TextClass, TextKind, Word};
 use plcx_types::Ty;

@@ -1,4 +1,5 @@
-use super::*;
+//! Texts and the tokens that they are cut into.
+use plcx_lex::{TextError, TokenKind, number_of, tokens};
 use plcx_types::Ty;
 use std::alloc::Global;
 use std::test::Fail;
@@ -21,7 +22,7 @@ fn told(alloc: Global, text: &[u8]) -> Result<Vec<u8>, Fail> {
     match tokens(alloc, text) {
         Ok(found) => {
             for token in &found {
-                lines.push(letter(token.kind))?;
+                lines.push(letter(token.terminal.kind()))?;
                 let start = token.span.start as usize;
                 let end = token.span.end as usize;
                 if start <= end && end <= text.len() {

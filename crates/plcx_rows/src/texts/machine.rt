@@ -459,7 +459,7 @@ pub fn with_texts<'a>(
         let end = usize::try_from(token.span.end).unwrap_or(0);
         let text = source.get(start..end).unwrap_or(&[]);
         all.push(Seen {
-            kind: token.kind,
+            kind: token.terminal.kind(),
             text,
         })?;
     }

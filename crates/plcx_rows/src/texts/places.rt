@@ -1,7 +1,7 @@
 //! The places of faults: `read`, and the reading by expected symbols, on one table of texts.
-use crate::machine::{Answer, walk, with_texts};
-use crate::read;
+use crate::texts::machine::{Answer, walk, with_texts};
 use plcx_lex::{TextError, TextToken, tokens};
+use plcx_read::read;
 use std::alloc::{AllocError, Global};
 use std::test::Fail;
 
@@ -99,17 +99,17 @@ fn unmarked(alloc: Global, marked: &[u8]) -> Result<(Vec<u8>, u64), AllocError> 
 
 /// What a text is, at its mark.
 #[derive(Clone, Copy)]
-enum Kind {
+enum Expected {
     Whole,
     NoToken,
     Broken,
     Full,
 }
 
-use Kind::{Broken, Full, NoToken, Whole};
+use Expected::{Broken, Full, NoToken, Whole};
 
-fn wanted(kind: Kind, at: u64) -> Found {
-    match kind {
+fn wanted(expected: Expected, at: u64) -> Found {
+    match expected {
         Whole => Fine,
         NoToken => Lex(at),
         Broken => Syntax(at),
@@ -118,17 +118,17 @@ fn wanted(kind: Kind, at: u64) -> Found {
 }
 
 /// What the marked text is wanted to be, and what both readings answer.
-fn answers(alloc: Global, kind: Kind, marked: &[u8]) -> Result<[Found; 3], AllocError> {
+fn answers(alloc: Global, expected: Expected, marked: &[u8]) -> Result<[Found; 3], AllocError> {
     let (bytes, at) = unmarked(alloc, marked)?;
     Ok([
-        wanted(kind, at),
+        wanted(expected, at),
         by_machine(alloc, &bytes)?,
         by_reader(alloc, &bytes),
     ])
 }
 
 /// Whole texts.
-const UNITS: [(Kind, &str); 27] = [
+const UNITS: [(Expected, &str); 27] = [
     (Whole, ""),
     (Whole, "PROGRAM P END_PROGRAM"),
     (Broken, "PROGRAM Main@"),
@@ -177,7 +177,7 @@ const UNITS: [(Kind, &str); 27] = [
 ];
 
 /// Statements of a program.
-const STATEMENTS: [(Kind, &str); 40] = [
+const STATEMENTS: [(Expected, &str); 40] = [
     (Whole, "X := (A OR B) AND NOT (C = D);"),
     (Whole, "X := A - B - C MOD D <> E.F;"),
     (Broken, "X @+ Y;"),
@@ -220,9 +220,9 @@ const STATEMENTS: [(Kind, &str); 40] = [
     (NoToken, "X (* @$ A;"),
 ];
 
-/// A kind, and the parts of a nested statement.
+/// What is expected, and the parts of a nested statement.
 type Nested = (
-    Kind,
+    Expected,
     &'static str,
     &'static str,
     usize,
@@ -325,8 +325,8 @@ const NESTED: [Nested; 31] = [
 #[test]
 fn both_readings_stop_at_the_place_in_a_text(rt: HostRuntime) -> Result<(), Fail> {
     let alloc = rt.alloc();
-    for (kind, text) in UNITS {
-        let [wanted, machine, reader] = answers(alloc, kind, text.as_bytes())?;
+    for (expected, text) in UNITS {
+        let [wanted, machine, reader] = answers(alloc, expected, text.as_bytes())?;
         assert_eq!(rt; machine, wanted, "by symbols: {text}");
         assert_eq!(rt; reader, wanted, "read: {text}");
     }
@@ -336,9 +336,9 @@ fn both_readings_stop_at_the_place_in_a_text(rt: HostRuntime) -> Result<(), Fail
 #[test]
 fn both_readings_stop_at_the_place_in_a_statement(rt: HostRuntime) -> Result<(), Fail> {
     let alloc = rt.alloc();
-    for (kind, text) in STATEMENTS {
+    for (expected, text) in STATEMENTS {
         let with_mark = program(alloc, text, ("", 0, ""), "", "")?;
-        let [wanted, machine, reader] = answers(alloc, kind, &with_mark)?;
+        let [wanted, machine, reader] = answers(alloc, expected, &with_mark)?;
         assert_eq!(rt; machine, wanted, "by symbols: {text}");
         assert_eq!(rt; reader, wanted, "read: {text}");
     }
@@ -348,9 +348,9 @@ fn both_readings_stop_at_the_place_in_a_statement(rt: HostRuntime) -> Result<(),
 #[test]
 fn both_readings_stop_at_the_place_of_the_limit(rt: HostRuntime) -> Result<(), Fail> {
     let alloc = rt.alloc();
-    for (kind, front, open, times, middle, close, back) in NESTED {
+    for (expected, front, open, times, middle, close, back) in NESTED {
         let with_mark = program(alloc, front, (open, times, close), middle, back)?;
-        let [wanted, machine, reader] = answers(alloc, kind, &with_mark)?;
+        let [wanted, machine, reader] = answers(alloc, expected, &with_mark)?;
         assert_eq!(rt; machine, wanted, "by symbols: {open}{middle}");
         assert_eq!(rt; reader, wanted, "read: {open}{middle}");
     }
