@@ -185,7 +185,7 @@ module _ (c : TextSetting) (s : Path → ℤ) (f : Frame) where
   joins op t join h gives (e ∷ es) (v ∷ vs) low k all = chain_joined op t join h gives e v.n es vs (k.0 ∙ ap (λ u. Given (value u v.n)) all.0) k.1 all.1
 
   tests : (op : Operator) (t : Ty) (join : ℤ → ℤ → ℤ) → takes (function_of op) t ≡ true → ((v w : Value) → answer (out_type (function_of op) t) (applied (function_of op) t (v ∷ w ∷ [])) ≡ answer t (after join t (Ok v) w))
-      → (es : List Expression) (vs : List Value) → 2 ≤ length vs → Known es vs → AllOf t vs → value_of (chain op es) c s f ≡ answer t (funcs.in_lower_case join t vs)
+      → (es : List Expression) (vs : List Value) → 2 ≤ length vs → Known es vs → AllOf t vs → value_of (chain op es) c s f ≡ answer t (funcs.folded join t vs)
   tests op t join h gives [] [] low k all = absurd (omega arith)
   tests op t join h gives [] (v ∷ vs) low k all = absurd k
   tests op t join h gives (e ∷ es) [] low k all = absurd k
