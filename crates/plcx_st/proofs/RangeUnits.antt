@@ -31,7 +31,7 @@ use Rattle.plcx_meaning.proofs.Enabling.{each_split}
 use Rattle.plcx_meaning.proofs.StaticsWorlds.{block_text, block_fits}
 use Rattle.plcx_meaning.proofs.ReadyUnits.{each_both, unit_ready}
 use Rattle.plcx_st.specs.InRange.{IsWord, DeclarationInRange, IsBare, FitsClass, BlockInRange, StatementsInRange, PouInRange, UnitInRange}
-use Rattle.plcx_st.specs.Fitting.{InitialFits, DeclarationFits, BlockFits, StatementsFit, UnitFits}
+use Rattle.plcx_st.specs.Fitting.{InitialNumberFits, DeclarationFits, BlockFits, StatementsFit, UnitFits}
 use Rattle.plcx_st.specs.Fitting as fitting
 use Rattle.plcx_st.specs.Depth.{pou_depth, printed_depth}
 use Rattle.plcx_st.proofs.Words.{word_same, good_word, type_word, elementary_word, standard_word, wire_word, edge_word, output_word, counter_word}
@@ -103,7 +103,7 @@ temporary_range (d ∷ ds) h = ((refl, h), tt)
 
 -- ---- the variables of a diagram
 
-initial_fits : (initial : Option Value) → ((value : Value) → initial ≡ Some value → InRange value.ty value.n) → InitialFits initial
+initial_fits : (initial : Option Value) → ((value : Value) → initial ≡ Some value → InRange value.ty value.n) → InitialNumberFits initial
 initial_fits None h = tt
 initial_fits (Some v) h = h v refl
 
@@ -245,5 +245,5 @@ in_range project fits = record {
 
 pub fits_types : (project : Project) → ProjectFits project → UnitFits (unit_of project)
 fits_types project fits =
-    each_map fitting.PouFits pou_text project (each_from _ project (λ p there.
+    each_map fitting.PouTextFits pou_text project (each_from _ project (λ p there.
     (blocks_fit project fits.pous p (each_at (PouFits project) project p fits.pous there), (body_of project fits p there).1)))

@@ -1,8 +1,8 @@
 -- The place of a fault: the first token with which no unit begins.
 use Rattle.std.specs.Prelude.{◌≡◌, ◌⊎◌, ℕ, suc, ◌-◌, ◌≤◌, List, [], ◌∷◌, ◌++◌, length, drop}
 use Rattle.plcx_lex.specs.Token.{Token}
-use Rattle.plcx_st.specs.Terminal.{terminal}
-use Rattle.plcx_st.specs.declared.terminal.Terminal.TheVariants as t
+use Rattle.plcx_lex.specs.Terminal.{terminal}
+use Rattle.plcx_lex.specs.declared.terminal.Terminal.TheVariants as t
 use Rattle.plcx_st.specs.declared.tree.Unit as tree
 use Rattle.plcx_st.specs.Grammar.{IsUnit}
 
