@@ -5,8 +5,7 @@ ghost use Rattle.plcx_lex.specs.ReadNumber.{literal_of};
 ghost use Rattle.plcx_st.specs.Terminal.{terminal, terminal_of, found};
 ghost use Rattle.plcx_st.specs.Grammar.{word, label};
 
-use crate::fault::ReadError;
-use plcx_lex::{TokenKind, number_of};
+use plcx_lex::{TextError, TokenKind, number_of};
 use plcx_st::{SIGNS, Terminal, WORDS, Word};
 use plcx_types::{Ident, Span, Ty};
 use sqlite_items::Items;
@@ -103,16 +102,16 @@ impl<'s> Lexeme<'s> {
     }
 
     /// The name that it is. A name token has the form of a name, so that only memory can be missing.
-    pub fn word(&self, alloc: Global) -> Result<Word, ReadError>
+    pub fn word(&self, alloc: Global) -> Result<Word, TextError>
         ensures value { IfOk result (λ w. w ≡ word self.now) }
-        ensures error { MatchResult result (λ _. Unit {0}) (λ e. e ≡ ReadError.NoMemory) }
+        ensures error { MatchResult result (λ _. Unit {0}) (λ e. e ≡ TextError.NoMemory) }
     {
         match Ident::new(alloc, self.text) {
             Ok(name) => Ok(Word {
                 name,
                 span: self.span,
             }),
-            Err(_) => Err(ReadError::NoMemory),
+            Err(_) => Err(TextError::NoMemory),
         }
     }
 
@@ -124,9 +123,9 @@ impl<'s> Lexeme<'s> {
     }
 
     /// The address that it is, in upper case.
-    pub fn address(&self, alloc: Global) -> Result<Items<u8>, ReadError>
+    pub fn address(&self, alloc: Global) -> Result<Items<u8>, TextError>
         ensures value { IfOk result (λ a. a ≡ map to_ascii_uppercase self.now.text) }
-        ensures error { MatchResult result (λ _. Unit {0}) (λ e. e ≡ ReadError.NoMemory) }
+        ensures error { MatchResult result (λ _. Unit {0}) (λ e. e ≡ TextError.NoMemory) }
     {
         let mut raised = Items::new(alloc);
         for byte in self.text {

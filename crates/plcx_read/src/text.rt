@@ -3,11 +3,8 @@ ghost use Rattle.plcx_lex.specs.Lexis.{spelt};
 ghost use Rattle.plcx_st.specs.declared.tree.Unit as tree;
 ghost use Rattle.plcx_st.specs.Grammar.{limit};
 ghost use Rattle.plcx_st.specs.Stands.{StandsFor};
-ghost use Rattle.plcx_st.specs.Place.{start_of};
-ghost use Rattle.plcx_read.specs.Located as spec;
 ghost use Rattle.plcx_read.specs.Fails.{IsRead, ReadFails};
 
-use crate::fault::ReadError;
 use crate::lexeme::Lexeme;
 use crate::unit::pous;
 use plcx_lex::{TextError, TextToken, tokens};
@@ -26,45 +23,20 @@ fn text_at(bytes: &[u8], span: Span) -> &[u8]
     &bytes[start..end]
 }
 
+/// The tokens with their texts. It gives up the tokens at its end.
 fn lexemes<'t>(
     alloc: Global,
     bytes: &'t [u8],
-    tokens: &[TextToken],
+    tokens: Vec<TextToken>,
 ) -> Result<Vec<Lexeme<'t>>, AllocError>
-    ensures { IfOk result (λ found. found.items ≡ map (spelt bytes.now) tokens.now) }
+    ensures { IfOk result (λ found. found.items ≡ map (spelt bytes.now) tokens.items) }
 {
-    let mut found = Vec::new(alloc);
-    for token in tokens {
+    let mut found = Vec::with_capacity(alloc, tokens.len())?;
+    for token in &tokens {
         let text = text_at(bytes, token.span);
         found.push(Lexeme::new(token.kind, text, token.span))?;
     }
     Ok(found)
-}
-
-fn place(lexemes: &[Lexeme<'_>], left: usize, end: u64) -> u64
-    ensures { result ≡ start_of (drop (length lexemes.now - left) lexemes.now) end }
-{
-    match &lexemes[lexemes.len().saturating_sub(left)..] {
-        [] => end,
-        [x, ..] => x.span().start,
-    }
-}
-
-fn located(lexemes: &[Lexeme<'_>], end: u64, error: ReadError) -> TextError
-    ensures { result ≡ spec.located lexemes.now end error }
-{
-    match error {
-        ReadError::NoMemory => TextError::NoMemory,
-        ReadError::Syntax(left) => TextError::Syntax {
-            at: place(lexemes, left, end),
-        },
-        ReadError::TooDeep(left) => TextError::TooDeep {
-            at: place(lexemes, left, end),
-        },
-        ReadError::DeepName(left) => TextError::TooDeep {
-            at: place(lexemes, left.saturating_add(1), end),
-        },
-    }
 }
 
 /// The unit that a text is, or why it is none and where.
@@ -74,11 +46,9 @@ pub fn read(alloc: Global, bytes: &[u8]) -> Result<Unit, TextError>
     ensures fails { MatchResult result (λ _. ⊤) (ReadFails bytes.now) }
 {
     let tokens = tokens(alloc, bytes)?;
-    let lexemes = lexemes(alloc, bytes, &tokens)?;
-    match pous(alloc, LIMIT, &lexemes) {
-        Ok(pous) => Ok(Unit { pous }),
-        Err(error) => Err(located(&lexemes, bytes.len() as u64, error)),
-    }
+    let lexemes = lexemes(alloc, bytes, tokens)?;
+    let pous = pous(alloc, bytes.len() as u64, LIMIT, &lexemes)?;
+    Ok(Unit { pous })
 }
 
 /// A text stands for one unit at most.

@@ -12,7 +12,7 @@ arguments-loop-turn-preserved t c =
 pub climb-returns-in_err-right-clause-gives : goal.climb-returns-in_err-right-clause-gives
 climb-returns-in_err-right-clause-gives t c =
     let p = err_from_is_err_and c.from_residual.result c.from_residual.ensures.1 in
-    rw (p.1, p.2, ← c.loop-turn.invariant.0) (climb_fails c.args.allowance (spec.expr c.args.allowance) (c.args.allowance + 1) c.loop-turn._turn c.args.least c.loop-turn.left c.loop-turn.depth c.loop-turn.rest.now c.in-Some.op c.in_err-right.field-0.0 (omega arith) (search rules) (omega arith) (rw (← c.level.ensures.value, ← c.behind.ensures) c.in_err-right.ensures.gives))
+    rw (p.1, p.2, ← c.loop-turn.invariant.0) (climb_fails c.args.allowance (spec.expr c.args.allowance) (c.args.allowance + 1) c.loop-turn._turn c.args.least c.loop-turn.left c.loop-turn.depth c.loop-turn.rest.now c.in-Some.op c.args.end c.in_err-right.field-0.0 (omega arith) (search rules) (omega arith) (rw (← c.level.ensures.value, ← c.behind.ensures) c.in_err-right.ensures.gives))
 
 pub climb-loop-turn-preserved : goal.climb-loop-turn-preserved
 climb-loop-turn-preserved t c =
