@@ -4,7 +4,7 @@ ghost use Rattle.plcx_read.specs.Gives.{Gives};
 
 use crate::lexeme::Lexeme;
 use crate::token::{
-    Part, behind, expect, literal_at, name_at, next, onward, same, sees, unexpected,
+    Part, behind, expect, listed, literal_at, name_at, next, onward, same, sees, unexpected,
 };
 use plcx_st::{Decl, Mark, Number, Terminal, TextBlock, TextClass};
 use sqlite_items::Items;
@@ -96,11 +96,11 @@ fn begins_decl(terminal: Terminal) -> bool
 fn decls<'t>(alloc: Global, end: u64, tokens: &'t [Lexeme<'t>]) -> Part<'t, Items<Decl>>
     ensures { Gives end (λ x. (x.0, 0, x.1.now)) result (spec.all_of spec.begins_decl spec.decl tokens.now) }
 {
-    let mut found = Items::new(alloc);
+    let mut found = Vec::new(alloc);
     let mut rest = tokens;
     for _turn in 0..tokens.len() + 1 {
         if !begins_decl(next(rest)) {
-            return Ok((found, rest));
+            return Ok((listed(found), rest));
         }
         let (x, after) = decl(alloc, end, rest)?;
         found.push(x)?;
@@ -113,11 +113,11 @@ fn decls<'t>(alloc: Global, end: u64, tokens: &'t [Lexeme<'t>]) -> Part<'t, Item
 fn bare_decls<'t>(alloc: Global, end: u64, tokens: &'t [Lexeme<'t>]) -> Part<'t, Items<Decl>>
     ensures { Gives end (λ x. (x.0, 0, x.1.now)) result (spec.all_of spec.begins_decl spec.bare_decl tokens.now) }
 {
-    let mut found = Items::new(alloc);
+    let mut found = Vec::new(alloc);
     let mut rest = tokens;
     for _turn in 0..tokens.len() + 1 {
         if !begins_decl(next(rest)) {
-            return Ok((found, rest));
+            return Ok((listed(found), rest));
         }
         let (x, after) = bare_decl(alloc, end, rest)?;
         found.push(x)?;
@@ -213,11 +213,11 @@ fn begins_block(terminal: Terminal) -> bool
 pub fn blocks<'t>(alloc: Global, end: u64, tokens: &'t [Lexeme<'t>]) -> Part<'t, Items<TextBlock>>
     ensures { Gives end (λ x. (x.0, 0, x.1.now)) result (spec.all_of spec.begins_block spec.block tokens.now) }
 {
-    let mut found = Items::new(alloc);
+    let mut found = Vec::new(alloc);
     let mut rest = tokens;
     for _turn in 0..tokens.len() + 1 {
         if !begins_block(next(rest)) {
-            return Ok((found, rest));
+            return Ok((listed(found), rest));
         }
         let (x, after) = block(alloc, end, rest)?;
         found.push(x)?;

@@ -4,7 +4,9 @@ ghost use Rattle.plcx_read.specs.Gives.{Gives};
 
 use crate::expression::expr;
 use crate::lexeme::Lexeme;
-use crate::token::{Read, behind, expect, next, onward, room, same, sees, too_deep, unexpected};
+use crate::token::{
+    Read, behind, expect, listed, next, onward, room, same, sees, too_deep, unexpected,
+};
 use plcx_lex::TextError;
 use plcx_st::{Arg, Arm, Expr, Stmt, Terminal};
 use sqlite_items::Items;
@@ -70,7 +72,7 @@ fn arguments<'t>(
     ensures gives { Gives end (λ x. (x.0, x.1, x.2.now)) result (spec.list_of (spec.argument allowance) tokens.now) }
     ensures within { IfOk result (λ x. x.1 ≤ allowance) }
 {
-    let mut found = Items::new(alloc);
+    let mut found = Vec::new(alloc);
     let mut depth: usize = 0;
     let mut rest = tokens;
     for _turn in 0..tokens.len() + 1 {
@@ -81,7 +83,7 @@ fn arguments<'t>(
             rest = behind(after);
         } else {
             let after = expect(end, Terminal::Close, after)?;
-            return Ok((found, depth, after));
+            return Ok((listed(found), depth, after));
         }
     }
     Err(unexpected(end, rest))
@@ -239,12 +241,12 @@ fn arms<'t>(
     ensures gives { Gives end (λ x. (x.0, x.1, x.2.now)) result (spec.all_of spec.is_digits (spec.arm (spec.statements allowance)) tokens.now) }
     ensures within { IfOk result (λ x. x.1 ≤ allowance) }
 {
-    let mut found = Items::new(alloc);
+    let mut found = Vec::new(alloc);
     let mut depth: usize = 0;
     let mut rest = tokens;
     for _turn in 0..tokens.len() + 1 {
         if !begins_arm(next(rest)) {
-            return Ok((found, depth, rest));
+            return Ok((listed(found), depth, rest));
         }
         let (x, at, after) = arm(alloc, end, allowance, rest)?;
         found.push(x)?;
@@ -272,8 +274,33 @@ fn selected<'t>(
     Ok((Stmt::Case { value, arms }, at.max(depth) + 1, rest))
 }
 
+/// By its first token. The parts inside have the allowance.
 #[cycle(statement)]
-#[tactic(auto, unfolding(crate::specs::Reading::statement, crate::specs::Reading::statement_of))]
+#[tactic(auto, unfolding(crate::specs::Reading::statement_of))]
+fn statement_of<'t>(
+    alloc: Global,
+    end: u64,
+    allowance: usize,
+    tokens: &'t [Lexeme<'t>],
+) -> Read<'t, Stmt>
+    requires { allowance < 1000 }
+    ensures gives { Gives end (λ x. (x.0, x.1, x.2.now)) result (spec.statement_of allowance (spec.statements allowance) tokens.now) }
+    ensures within { IfOk result (λ x. x.1 ≤ allowance + 1) }
+{
+    match tokens {
+        [] => Err(unexpected(end, tokens)),
+        [x, rest @ ..] => match x.terminal() {
+            Terminal::Name => named(alloc, end, allowance, x, rest),
+            Terminal::If => conditional(alloc, end, allowance, tokens),
+            Terminal::While => repeated(alloc, end, allowance, tokens),
+            Terminal::Case => selected(alloc, end, allowance, tokens),
+            _ => Err(unexpected(end, tokens)),
+        },
+    }
+}
+
+#[cycle(statement)]
+#[tactic(auto, unfolding(crate::specs::Reading::statement))]
 fn statement<'t>(
     alloc: Global,
     end: u64,
@@ -287,16 +314,7 @@ fn statement<'t>(
     if allowance == 0 {
         return Err(too_deep(end, tokens));
     }
-    match tokens {
-        [] => Err(unexpected(end, tokens)),
-        [x, rest @ ..] => match x.terminal() {
-            Terminal::Name => named(alloc, end, allowance - 1, x, rest),
-            Terminal::If => conditional(alloc, end, allowance - 1, tokens),
-            Terminal::While => repeated(alloc, end, allowance - 1, tokens),
-            Terminal::Case => selected(alloc, end, allowance - 1, tokens),
-            _ => Err(unexpected(end, tokens)),
-        },
-    }
+    statement_of(alloc, end, allowance - 1, tokens)
 }
 
 fn begins_stmt(terminal: Terminal) -> bool
@@ -321,12 +339,12 @@ pub fn statements<'t>(
     ensures gives { Gives end (λ x. (x.0, x.1, x.2.now)) result (spec.statements allowance tokens.now) }
     ensures within { IfOk result (λ x. x.1 ≤ allowance) }
 {
-    let mut found = Items::new(alloc);
+    let mut found = Vec::new(alloc);
     let mut depth: usize = 0;
     let mut rest = tokens;
     for _turn in 0..tokens.len() + 1 {
         if !begins_stmt(next(rest)) {
-            return Ok((found, depth, rest));
+            return Ok((listed(found), depth, rest));
         }
         let (x, at, after) = statement(alloc, end, allowance, rest)?;
         found.push(x)?;

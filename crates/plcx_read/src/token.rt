@@ -7,6 +7,7 @@ ghost use Rattle.plcx_read.specs.Gives.{Gives, located};
 use crate::lexeme::Lexeme;
 use plcx_lex::TextError;
 use plcx_st::{Number, Terminal, Word};
+use sqlite_items::Items;
 use std::alloc::Global;
 
 /// What a reader gives: a value, its depth, and the tokens after it. Readers take the length of the text, which is the place where tokens are missing.
@@ -86,6 +87,14 @@ pub fn onward<'t>(tokens: &'t [Lexeme<'t>]) -> &'t [Lexeme<'t>]
     ensures { result.now ≡ tokens.now }
 {
     tokens
+}
+
+/// The list of what was found, with room for that alone.
+pub fn listed<T: Drop>(mut found: Vec<T>) -> Items<T>
+    ensures { result ≡ found.items }
+{
+    found.shrink_to_fit();
+    Items::from_vec(found)
 }
 
 /// The tokens behind the first, which is this terminal.

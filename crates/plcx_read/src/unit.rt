@@ -6,7 +6,7 @@ ghost use Rattle.plcx_read.specs.Gives.{Gives};
 use crate::declaration::blocks;
 use crate::lexeme::Lexeme;
 use crate::statement::statements;
-use crate::token::{Read, behind, expect, name_at, next, onward, too_deep, unexpected};
+use crate::token::{Read, behind, expect, listed, name_at, next, onward, too_deep, unexpected};
 use plcx_lex::TextError;
 use plcx_st::{PouText, Terminal, TextKind};
 use sqlite_items::Items;
@@ -84,12 +84,12 @@ fn several<'t>(
     ensures gives { Gives end (λ x. (x.0, x.1, x.2.now)) result (spec.all_of spec.begins_pou (spec.pou allowance) tokens.now) }
     ensures within { IfOk result (λ x. x.1 ≤ allowance) }
 {
-    let mut found = Items::new(alloc);
+    let mut found = Vec::new(alloc);
     let mut depth: usize = 0;
     let mut rest = tokens;
     for _turn in 0..tokens.len() + 1 {
         if !begins_pou(next(rest)) {
-            return Ok((found, depth, rest));
+            return Ok((listed(found), depth, rest));
         }
         let (x, at, after) = pou(alloc, end, allowance, rest)?;
         found.push(x)?;
