@@ -1,11 +1,11 @@
 -- What was read in front of a fault begins a whole text of a language, within the allowance.
-use Rattle.std.proofs.Common.{◌≡◌, ℕ, suc, ◌≤◌, List, [], ◌∷◌, ◌++◌, length, length-append, Result, Ok, Err, refl, sym, ap, subst, ◌∙◌, append_assoc, arith, inl, inr, ◌⊎◌}
+use Rattle.std.proofs.Common.{◌≡◌, ℕ, ◌≤◌, List, [], ◌∷◌, ◌++◌, length, length-append, Result, Ok, Err, refl, sym, ap, subst, ◌∙◌, append_assoc, arith, inl, inr, ◌⊎◌}
 use Rattle.std.proofs.lemmas.List.{append-nil}
 use Rattle.plcx_lex.specs.Token.{Token}
 use Rattle.plcx_st.specs.declared.terminal.Terminal.TheVariants as t
 use Rattle.plcx_st.specs.Terminal.{terminal}
 use Rattle.plcx_st.specs.Place.{IsTold, TellsLast}
-use Rattle.plcx_read.specs.Reading.{Cause, syntax, too_deep, told_too_deep, Stop, ◌>>=◌}
+use Rattle.plcx_read.specs.Reading.{syntax, too_deep, told_too_deep, Stop, ◌>>=◌}
 use Rattle.plcx_read.proofs.Steady.{bind_err}
 
 -- lists of tokens, with their depth

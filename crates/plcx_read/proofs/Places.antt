@@ -1,5 +1,5 @@
 -- A fault of the reader is at its place.
-use Rattle.std.proofs.Common.{◌≡◌, ℕ, suc, ◌+◌, ◌≤◌, false, cond, eqb, max, List, [], ◌∷◌, ◌++◌, length, Result, Ok, Err, refl, sym, ap, subst, ◌∙◌, append_assoc, arith, inl, inr}
+use Rattle.std.proofs.Common.{◌≡◌, ℕ, suc, ◌≤◌, false, cond, eqb, max, List, [], ◌∷◌, ◌++◌, length, Result, Ok, Err, refl, sym, ap, subst, ◌∙◌, append_assoc, arith, inl, inr}
 use Rattle.std.proofs.lemmas.List.{append-nil}
 use Rattle.plcx_lex.specs.Token.{Token}
 use Rattle.plcx_lex.specs.declared.error.TextError.{TextError}
@@ -11,7 +11,7 @@ use Rattle.plcx_st.specs.declared.tree.PouText.{PouText}
 use Rattle.plcx_read.specs.Gives.{located}
 use Rattle.plcx_read.specs.Reading.{Cause, syntax, too_deep, told_too_deep, Stop, Out, Read, all_of, begins_pou, pou, pous}
 use Rattle.plcx_read.proofs.OnePlace.{StopsAt, two_more}
-use Rattle.plcx_read.proofs.Steady.{Reader, Outcome, answered, refused, seen, Holds, Firm, done, refuse, done_is, fault_is, never_both, bind_ok, bind_err}
+use Rattle.plcx_read.proofs.Steady.{Reader, Outcome, answered, refused, seen, Holds, Firm, done, done_is, fault_is, never_both, bind_ok, bind_err}
 use Rattle.plcx_read.proofs.SteadyUnits.{steady_pous}
 use Rattle.plcx_read.proofs.Completes.{Anything, Free, Told, Onward}
 use Rattle.plcx_read.proofs.CompletesUnits.{pous_complete}

@@ -1,5 +1,5 @@
 -- What is read as a statement is one.
-use Rattle.std.proofs.Common.{◌≡◌, ℕ, zero, suc, ◌+◌, ◌≤◌, true, max, List, [], ◌∷◌, ◌++◌, length, drop, Ok, refl, sym, ap, subst, ◌∙◌, append_assoc, arith}
+use Rattle.std.proofs.Common.{◌≡◌, ℕ, zero, suc, ◌+◌, ◌≤◌, true, max, List, [], ◌∷◌, ◌++◌, drop, Ok, refl, sym, ap, subst, ◌∙◌, append_assoc, arith}
 use Rattle.plcx_lex.specs.Token.{Token}
 use Rattle.plcx_st.specs.declared.terminal.Terminal.{Terminal}
 use Rattle.plcx_st.specs.declared.terminal.Terminal.TheVariants as t

@@ -1,5 +1,5 @@
 -- Expressions.
-use Rattle.std.specs.Prelude.{ℕ, zero, suc, ◌+◌, max, List, [], ◌∷◌, length, drop, Option, Some, None, Ok, Err, nat_lt, if◌then◌else◌}
+use Rattle.std.specs.Prelude.{ℕ, zero, suc, ◌+◌, max, List, [], ◌∷◌, drop, Option, Some, None, Ok, Err, nat_lt, if◌then◌else◌}
 use Rattle.plcx_lex.specs.Token.{Token}
 use Rattle.plcx_st.specs.declared.terminal.Terminal.{Terminal}
 use Rattle.plcx_st.specs.declared.terminal.Terminal.TheVariants as t

@@ -1,5 +1,5 @@
 -- Statements.
-use Rattle.std.specs.Prelude.{ℕ, zero, suc, ◌+◌, max, Bool, true, false, List, [], ◌∷◌, length, drop, Result, Ok, Err, if◌then◌else◌}
+use Rattle.std.specs.Prelude.{ℕ, zero, suc, ◌+◌, max, Bool, true, false, List, [], ◌∷◌, drop, Result, Ok, Err, if◌then◌else◌}
 use Rattle.plcx_lex.specs.Token.{Token}
 use Rattle.plcx_st.specs.declared.terminal.Terminal.{Terminal}
 use Rattle.plcx_st.specs.declared.terminal.Terminal.TheVariants as t

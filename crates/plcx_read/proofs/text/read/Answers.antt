@@ -1,4 +1,4 @@
-use Rattle.std.proofs.Common.{length, map, sym, subst, ◌∙◌, refl}
+use Rattle.std.proofs.Common.{length, sym, subst, ◌∙◌, refl}
 use Rattle.std.proofs.lemmas.Result.{err_from_is_err_and}
 use Rattle.plcx_lex.specs.Lexis.{AreTokens}
 use Rattle.plcx_read.proofs.WholeText.{reads, read_only, error_only, error_fails, found}
