@@ -1,8 +1,8 @@
 -- The place of a fault in tokens: what stands before it, and what is left from there on.
 use Rattle.std.specs.Prelude.{◌≡◌, ◌⊎◌, ℕ, ◌≤◌, List, [], ◌∷◌, ◌++◌}
 use Rattle.plcx_lex.specs.Token.{Token}
-use Rattle.plcx_st.specs.Terminal.{terminal}
-use Rattle.plcx_st.specs.declared.terminal.Terminal.TheVariants as t
+use Rattle.plcx_lex.specs.Terminal.{terminal}
+use Rattle.plcx_lex.specs.declared.terminal.Terminal.TheVariants as t
 use Rattle.plcx_st.specs.declared.tree.Unit as tree
 use Rattle.plcx_st.specs.Grammar.{IsUnit}
 
