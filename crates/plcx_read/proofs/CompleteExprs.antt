@@ -6,9 +6,9 @@ use Rattle.plcx_lex.specs.Token.{Token}
 use Rattle.plcx_lex.specs.Number.{IsLiteral}
 use Rattle.plcx_lex.specs.ReadNumber.{literal_of}
 use Rattle.plcx_lex.proofs.Numbers.{literal_reads}
-use Rattle.plcx_st.specs.declared.terminal.Terminal.{Terminal}
-use Rattle.plcx_st.specs.declared.terminal.Terminal.TheVariants as t
-use Rattle.plcx_st.specs.Terminal.{terminal}
+use Rattle.plcx_lex.specs.declared.terminal.Terminal.{Terminal}
+use Rattle.plcx_lex.specs.declared.terminal.Terminal.TheVariants as t
+use Rattle.plcx_lex.specs.Terminal.{terminal}
 use Rattle.plcx_st.specs.declared.tree.Op.{Op}
 use Rattle.plcx_st.specs.declared.tree.Op.TheVariants as op
 use Rattle.plcx_st.specs.declared.tree.Expr.{Expr}

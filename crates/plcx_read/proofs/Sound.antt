@@ -4,9 +4,9 @@ use denote.Enum.Bare.{same_true}
 use Rattle.std.proofs.lemmas.List.{append-nil}
 use Rattle.plcx_lex.specs.Token.{Token}
 use Rattle.plcx_st.specs.contracts.terminal.Terminal.{the_type}
-use Rattle.plcx_st.specs.declared.terminal.Terminal.{Terminal}
-use Rattle.plcx_st.specs.declared.terminal.Terminal.TheVariants as t
-use Rattle.plcx_st.specs.Terminal.{terminal}
+use Rattle.plcx_lex.specs.declared.terminal.Terminal.{Terminal}
+use Rattle.plcx_lex.specs.declared.terminal.Terminal.TheVariants as t
+use Rattle.plcx_lex.specs.Terminal.{terminal}
 use Rattle.plcx_st.specs.Grammar.{word}
 use Rattle.plcx_st.specs.declared.tree.Word.{Word}
 use Rattle.plcx_read.specs.Reading.{Stop, syntax, Read, ◌>>=◌, same, next, sees, expect, name_at, room, room_told, several, all_of, parted, list_of}

@@ -4,9 +4,9 @@ use Rattle.std.proofs.lemmas.List.{append-nil}
 use Rattle.std.specs.Char.{to_ascii_uppercase}
 use Rattle.plcx_lex.specs.Token.{Token}
 use Rattle.plcx_lex.proofs.Numbers.{literal_is}
-use Rattle.plcx_st.specs.declared.terminal.Terminal.{Terminal}
-use Rattle.plcx_st.specs.declared.terminal.Terminal.TheVariants as t
-use Rattle.plcx_st.specs.Terminal.{terminal}
+use Rattle.plcx_lex.specs.declared.terminal.Terminal.{Terminal}
+use Rattle.plcx_lex.specs.declared.terminal.Terminal.TheVariants as t
+use Rattle.plcx_lex.specs.Terminal.{terminal}
 use Rattle.plcx_st.specs.Grammar.{word, number, marked_class, heading, ending, Each, IsAddress, IsInitial, IsDecl, IsBareDecl, IsBlock, IsPou, AreStmts, ArePous}
 use Rattle.plcx_st.specs.Grammar as g
 use Rattle.plcx_st.specs.declared.tree.Word.{Word}

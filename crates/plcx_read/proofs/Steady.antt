@@ -2,9 +2,9 @@
 use Rattle.std.proofs.Common.{◌≡◌, ℕ, zero, suc, ◌+◌, ◌≤◌, ◌<◌, Bool, true, false, cond, length-append, List, [], ◌∷◌, ◌++◌, length, drop, Option, Some, None, Result, Ok, Err, refl, sym, ap, subst, ◌∙◌, append_assoc, arith, inl, inr, ◌⊎◌}
 use Rattle.std.proofs.lemmas.List.{append_cancel_right}
 use Rattle.plcx_lex.specs.Token.{Token}
-use Rattle.plcx_st.specs.declared.terminal.Terminal.{Terminal}
-use Rattle.plcx_st.specs.declared.terminal.Terminal.TheVariants as t
-use Rattle.plcx_st.specs.Terminal.{terminal}
+use Rattle.plcx_lex.specs.declared.terminal.Terminal.{Terminal}
+use Rattle.plcx_lex.specs.declared.terminal.Terminal.TheVariants as t
+use Rattle.plcx_lex.specs.Terminal.{terminal}
 use Rattle.plcx_read.specs.Reading.{Cause, syntax, too_deep, told_too_deep, Stop, Out, Read, ◌>>=◌, ◌>>◌, same, next, sees, expect, room, room_told}
 
 abbrev pub Reader : Type 0 → Type 0

@@ -4,9 +4,9 @@ use Rattle.std.proofs.lemmas.Bool.{le-ltb, ltb-false}
 use Rattle.plcx_types.specs.declared.ty.Ty.{Ty}
 use Rattle.plcx_lex.specs.Token.{Token}
 use Rattle.plcx_lex.specs.ReadNumber.{literal_of}
-use Rattle.plcx_st.specs.declared.terminal.Terminal.{Terminal}
-use Rattle.plcx_st.specs.declared.terminal.Terminal.TheVariants as t
-use Rattle.plcx_st.specs.Terminal.{terminal}
+use Rattle.plcx_lex.specs.declared.terminal.Terminal.{Terminal}
+use Rattle.plcx_lex.specs.declared.terminal.Terminal.TheVariants as t
+use Rattle.plcx_lex.specs.Terminal.{terminal}
 use Rattle.plcx_st.specs.Grammar.{word, number, operator, level, tightest}
 use Rattle.plcx_st.specs.declared.tree.Word.{Word}
 use Rattle.plcx_st.specs.declared.tree.Number.{Number}

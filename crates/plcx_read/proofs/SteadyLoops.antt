@@ -1,8 +1,8 @@
 -- The loops of the reader are steady where what they repeat is.
 use Rattle.std.proofs.Common.{◌≡◌, ℕ, zero, suc, ◌+◌, ◌≤◌, ◌<◌, Bool, true, false, cond, max, length-append, List, [], ◌∷◌, ◌++◌, length, drop, Result, Ok, Err, refl, ap, arith}
 use Rattle.plcx_lex.specs.Token.{Token}
-use Rattle.plcx_st.specs.declared.terminal.Terminal.{Terminal}
-use Rattle.plcx_st.specs.declared.terminal.Terminal.TheVariants as t
+use Rattle.plcx_lex.specs.declared.terminal.Terminal.{Terminal}
+use Rattle.plcx_lex.specs.declared.terminal.Terminal.TheVariants as t
 use Rattle.plcx_read.specs.Reading.{Stop, Read, ◌>>=◌, next, sees, expect, several, all_of, parted, list_of}
 use Rattle.plcx_read.proofs.Steady.{Reader, Steady, steady_pure, steady_fail, steady_bind, steady_choose, steady_next, steady_sees, steady_skip, steady_expect, steady_turns}
 

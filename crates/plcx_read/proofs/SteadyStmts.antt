@@ -1,9 +1,9 @@
 -- The readers of statements are steady.
 use Rattle.std.proofs.Common.{◌≡◌, ℕ, zero, suc, ◌+◌, ◌≤◌, max, cond, List, [], ◌∷◌, length, drop, Result, Ok, Err, refl, sym, ◌∙◌, arith}
 use Rattle.plcx_lex.specs.Token.{Token}
-use Rattle.plcx_st.specs.declared.terminal.Terminal.{Terminal}
-use Rattle.plcx_st.specs.declared.terminal.Terminal.TheVariants as t
-use Rattle.plcx_st.specs.Terminal.{terminal}
+use Rattle.plcx_lex.specs.declared.terminal.Terminal.{Terminal}
+use Rattle.plcx_lex.specs.declared.terminal.Terminal.TheVariants as t
+use Rattle.plcx_lex.specs.Terminal.{terminal}
 use Rattle.plcx_st.specs.Grammar.{word, label}
 use Rattle.plcx_st.specs.declared.tree.Expr.{Expr}
 use Rattle.plcx_st.specs.declared.tree.Arg.{Arg}

@@ -2,8 +2,8 @@
 use Rattle.std.proofs.Common.{◌≡◌, ℕ, suc, ◌-◌, ◌+◌, ◌≤◌, ◌<◌, Bool, true, false, max, ltb, List, [], ◌∷◌, ◌++◌, drop, Some, Result, Ok, Err, refl, arith}
 use Rattle.std.proofs.lemmas.Bool.{le-ltb}
 use Rattle.plcx_lex.specs.Token.{Token}
-use Rattle.plcx_st.specs.declared.terminal.Terminal.{Terminal}
-use Rattle.plcx_st.specs.declared.terminal.Terminal.TheVariants as t
+use Rattle.plcx_lex.specs.declared.terminal.Terminal.{Terminal}
+use Rattle.plcx_lex.specs.declared.terminal.Terminal.TheVariants as t
 use Rattle.plcx_st.specs.declared.tree.Op.{Op}
 use Rattle.plcx_st.specs.declared.tree.Expr.{Expr}
 use Rattle.plcx_st.specs.declared.tree.Expr.TheVariants as e

@@ -1,7 +1,7 @@
 -- What the tokens of a text give is what the text stands for.
 use Rattle.std.proofs.Common.{◌≡◌, ◌≤◌, ℕ, List, length, Result, Ok, Err, refl, sym, ap, subst, ◌∙◌, max, arith}
 use Rattle.plcx_lex.specs.Token.{Token}
-use Rattle.plcx_lex.specs.Lexis.{AreTokens}
+use Rattle.plcx_lex.specs.Lexis.{AreTextTokens}
 use Rattle.plcx_lex.proofs.MadeLaws.{one_tokens}
 use Rattle.plcx_st.specs.declared.tree.Unit as tree
 use Rattle.plcx_st.specs.declared.tree.PouText.{PouText}
@@ -24,7 +24,7 @@ ok_is : {A : Type 0} (x y : A) → done x ≡ done y → x ≡ y
 ok_is x y h = cc
 
 -- what stands for a unit is read from its tokens
-pub reads : (bytes : List ℕ) (ts : List Token) (u : tree.Unit) (d : ℕ) → AreTokens bytes ts → d ≤ limit → StandsFor bytes u d → pous limit ts ≡ Ok u.pous
+pub reads : (bytes : List ℕ) (ts : List Token) (u : tree.Unit) (d : ℕ) → AreTextTokens bytes ts → d ≤ limit → StandsFor bytes u d → pous limit ts ≡ Ok u.pous
 reads bytes ts u d made le stands =
     let same = one_tokens bytes stands.tokens ts stands.made made in
     complete_unit limit ts u.pous d (subst (λ (l : List Token). ArePous l u.pous d) same stands.is) le
@@ -42,19 +42,19 @@ pub error_only : (ts us : List Token) (end' : ℕ) (e : TextError) (u : tree.Uni
 error_only ts us end' e u same h g = error_reads end' e u (subst (λ (r : Result (List PouText) Stop). Fails end' e r) (ap (λ w. pous limit w) same ∙ g) h)
 
 -- a fault of the tokens is a fault of the text
-stands_at : (bytes : List ℕ) (ts : List Token) (f : Stop) (p : Placed limit ts f) → AreTokens bytes ts → ReadFails bytes (error_at p.fault (start_of p.rest (length bytes)))
+stands_at : (bytes : List ℕ) (ts : List Token) (f : Stop) (p : Placed limit ts f) → AreTextTokens bytes ts → ReadFails bytes (error_at p.fault (start_of p.rest (length bytes)))
 stands_at bytes ts f p made = kind p.fault p.is
   where
     kind : (k : Fault) → IsPlace limit p.before p.rest k → ReadFails bytes (error_at k (start_of p.rest (length bytes)))
-    kind Syntax is = (p.before, p.rest, subst (AreTokens bytes) p.parts made, is, refl)
-    kind TooDeep is = (p.before, p.rest, subst (AreTokens bytes) p.parts made, is, refl)
+    kind Syntax is = (p.before, p.rest, subst (AreTextTokens bytes) p.parts made, is, refl)
+    kind TooDeep is = (p.before, p.rest, subst (AreTextTokens bytes) p.parts made, is, refl)
 
 never_lex : (end' at : ℕ) (f : Stop) → text.Lex at ≡ located end' f.0 f.1 → ⊥
 never_lex end' at (syntax, ts) h = absurd cc
 never_lex end' at (too_deep, ts) h = absurd cc
 never_lex end' at (told_too_deep w, ts) h = absurd cc
 
-error_places : (bytes : List ℕ) (ts : List Token) (e : TextError) (r : Result (List PouText) Stop) → AreTokens bytes ts → pous limit ts ≡ r → Fails (length bytes) e r → ReadFails bytes e
+error_places : (bytes : List ℕ) (ts : List Token) (e : TextError) (r : Result (List PouText) Stop) → AreTextTokens bytes ts → pous limit ts ≡ r → Fails (length bytes) e r → ReadFails bytes e
 error_places bytes ts text.NoMemory r made is h = tt
 error_places bytes ts (text.Lex at) (Ok y) made is h = absurd h
 error_places bytes ts (text.Lex at) (Err f) made is h = absurd (never_lex (length bytes) at f h)
@@ -63,11 +63,11 @@ error_places bytes ts (text.Syntax at) (Err f) made is h = (let p = pous_place 2
 error_places bytes ts (text.TooDeep at) (Ok y) made is h = absurd h
 error_places bytes ts (text.TooDeep at) (Err f) made is h = (let p = pous_place 255 ts f is in subst (λ (e : TextError). ReadFails bytes e) (sym (h ∙ p.error (length bytes))) (stands_at bytes ts f p made))
 
-pub error_fails : (bytes : List ℕ) (ts : List Token) (e : TextError) → AreTokens bytes ts → Fails (length bytes) e (pous limit ts) → ReadFails bytes e
+pub error_fails : (bytes : List ℕ) (ts : List Token) (e : TextError) → AreTextTokens bytes ts → Fails (length bytes) e (pous limit ts) → ReadFails bytes e
 error_fails bytes ts e made h = error_places bytes ts e (pous limit ts) made refl h
 
 -- what was read from the tokens stands for the text
-pub found : (bytes : List ℕ) (ts : List Token) (ps : List PouText) → AreTokens bytes ts → pous limit ts ≡ Ok ps → (d : ℕ) × (d ≤ limit) × StandsFor bytes (record { pous = ps }) d
+pub found : (bytes : List ℕ) (ts : List Token) (ps : List PouText) → AreTextTokens bytes ts → pous limit ts ≡ Ok ps → (d : ℕ) × (d ≤ limit) × StandsFor bytes (record { pous = ps }) d
 found bytes ts ps made h = let s = pous_sound limit ts ps h in (s.0, s.1, record { tokens = ts; made = made; is = s.2 })
 
 -- a text stands for one unit at most

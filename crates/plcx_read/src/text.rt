@@ -1,5 +1,6 @@
-ghost use Rattle.std.specs.Prelude.{◌≡◌, ◌≤◌, ◌-◌, ℕ, List, ⊤, length, drop, take, map, IfOk, MatchResult};
+ghost use Rattle.std.specs.Prelude.{◌≡◌, ◌≤◌, ℕ, List, ⊤, map, IfOk, MatchResult, All};
 ghost use Rattle.plcx_lex.specs.Lexis.{spelt};
+ghost use Rattle.plcx_lex.specs.Terminal.{terminal};
 ghost use Rattle.plcx_st.specs.declared.tree.Unit as tree;
 ghost use Rattle.plcx_st.specs.Grammar.{limit};
 ghost use Rattle.plcx_st.specs.Stands.{StandsFor};
@@ -9,19 +10,10 @@ use crate::lexeme::Lexeme;
 use crate::unit::pous;
 use plcx_lex::{TextError, TextToken, tokens};
 use plcx_st::Unit;
-use plcx_types::Span;
 use std::alloc::{AllocError, Global};
 
 /// How deep a text may be.
 const LIMIT: usize = 256;
-
-fn text_at(bytes: &[u8], span: Span) -> &[u8]
-    ensures { result.now ≡ take (span.end - span.start) (drop span.start bytes.now) }
-{
-    let end = bytes.len().min(span.end as usize);
-    let start = end.min(span.start as usize);
-    &bytes[start..end]
-}
 
 /// The tokens with their texts. It gives up the tokens at its end.
 fn lexemes<'t>(
@@ -29,12 +21,12 @@ fn lexemes<'t>(
     bytes: &'t [u8],
     tokens: Vec<TextToken>,
 ) -> Result<Vec<Lexeme<'t>>, AllocError>
+    requires { All (λ t. t.terminal ≡ terminal (spelt bytes.now t)) tokens.items }
     ensures { IfOk result (λ found. found.items ≡ map (spelt bytes.now) tokens.items) }
 {
     let mut found = Vec::with_capacity(alloc, tokens.len())?;
     for token in &tokens {
-        let text = text_at(bytes, token.span);
-        found.push(Lexeme::new(token.kind, text, token.span))?;
+        found.push(Lexeme::new(bytes, *token))?;
     }
     Ok(found)
 }

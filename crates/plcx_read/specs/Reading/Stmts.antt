@@ -1,9 +1,9 @@
 -- Statements.
 use Rattle.std.specs.Prelude.{ℕ, zero, suc, ◌+◌, max, Bool, true, false, List, [], ◌∷◌, drop, Result, Ok, Err, if◌then◌else◌}
 use Rattle.plcx_lex.specs.Token.{Token}
-use Rattle.plcx_st.specs.declared.terminal.Terminal.{Terminal}
-use Rattle.plcx_st.specs.declared.terminal.Terminal.TheVariants as t
-use Rattle.plcx_st.specs.Terminal.{terminal}
+use Rattle.plcx_lex.specs.declared.terminal.Terminal.{Terminal}
+use Rattle.plcx_lex.specs.declared.terminal.Terminal.TheVariants as t
+use Rattle.plcx_lex.specs.Terminal.{terminal}
 use Rattle.plcx_st.specs.Grammar.{word, label}
 use Rattle.plcx_st.specs.declared.tree.Expr.{Expr}
 use Rattle.plcx_st.specs.declared.tree.Arg.{Arg}
