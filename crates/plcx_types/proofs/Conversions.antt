@@ -105,7 +105,7 @@ one_of p (t ∷ ts) h = elim (cases_Bool (p t)) [
   | inr other ↦ one_of p ts (rw other at h)
 ]
 
-differs : (b : Bool) → not b ≡ true → b ≡ false
+pub differs : (b : Bool) → not b ≡ true → b ≡ false
 differs true h = absurd (cc)
 differs false h = refl
 
