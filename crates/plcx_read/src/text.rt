@@ -10,10 +10,8 @@ use crate::lexeme::Lexeme;
 use crate::unit::pous;
 use plcx_lex::{TextError, TextToken, tokens};
 use plcx_st::Unit;
+use plcx_types::limits::MAX_TEXT_DEPTH;
 use std::alloc::{AllocError, Global};
-
-/// How deep a text may be.
-const LIMIT: usize = 256;
 
 /// The tokens with their texts. It gives up the tokens at its end.
 fn lexemes<'t>(
@@ -39,7 +37,7 @@ pub fn read(alloc: Global, bytes: &[u8]) -> Result<Unit, TextError>
 {
     let tokens = tokens(alloc, bytes)?;
     let lexemes = lexemes(alloc, bytes, tokens)?;
-    let pous = pous(alloc, bytes.len() as u64, LIMIT, &lexemes)?;
+    let pous = pous(alloc, bytes.len() as u64, MAX_TEXT_DEPTH, &lexemes)?;
     Ok(Unit { pous })
 }
 

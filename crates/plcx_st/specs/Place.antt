@@ -41,9 +41,21 @@ pub data IsPlace (bound : ℕ) : List Token → List Token → Fault → Type 0 
   -- with the next token no unit begins, of any depth
   no_unit : {before rest : List Token} {x : Token} → Begins bound before → (BeginsDeep (before ++ x ∷ []) → ⊥) → IsPlace bound before (x ∷ rest) Syntax
   -- with the next token a unit begins, but none within the bound
-  too_deep : {before rest : List Token} {x : Token} → Begins bound before → BeginsTooDeep bound (before ++ x ∷ []) → (TellsLast before x → ⊥) → IsPlace bound before (x ∷ rest) TooDeep
+  too_deep : {before rest : List Token} {x : Token} → Begins bound before → BeginsTooDeep bound (before ++ x ∷ []) → (TellsLast before x → ⊥)
+      → IsPlace bound before (x ∷ rest) TooDeep
   -- the same with a sign behind a name, which tells what the name begins: the name is the place
-  told : {before rest : List Token} {w s : Token} → Begins bound (before ++ w ∷ []) → BeginsTooDeep bound (before ++ w ∷ s ∷ []) → IsTold w s → IsPlace bound before (w ∷ s ∷ rest) TooDeep
+  told : {before rest : List Token} {w s : Token} → Begins bound (before ++ w ∷ []) → BeginsTooDeep bound (before ++ w ∷ s ∷ []) → IsTold w s
+      → IsPlace bound before (w ∷ s ∷ rest) TooDeep
+
+-- tokens have one place at most, with one fault
+abbrev pub HasOnePlace : ℕ → Type 0
+HasOnePlace bound =
+    (before rest other others : List Token) (f g : Fault) → before ++ rest ≡ other ++ others → IsPlace bound before rest f → IsPlace bound other others g
+    → (before ≡ other) × (rest ≡ others) × (f ≡ g)
+
+-- a unit within the bound has none
+abbrev pub FineHasNone : ℕ → Type 0
+FineHasNone bound = (before rest : List Token) (f : Fault) → IsPlace bound before rest f → IsFine bound (before ++ rest) → ⊥
 
 -- where the first of the tokens begins, or the text ends
 abbrev pub start_of : List Token → ℕ → ℕ
