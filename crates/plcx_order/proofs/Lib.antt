@@ -1,0 +1,11 @@
+pub mod Deciding
+pub mod Paths
+pub mod KeyOrder
+pub mod InNetwork
+pub mod OneOrder
+pub mod RankOrder
+pub mod ChainSteps
+pub mod Moves
+pub mod Close
+pub mod Turns
+pub mod MarkSteps

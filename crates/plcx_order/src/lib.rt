@@ -1,0 +1,16 @@
+//! Networks, feedback and order of a body, which is seen as `Wires`: each proved equal to its definition.
+//!
+//! `networks` finds the classes of linked elements by a walk over neighbours, `feedback` the connections that lead
+//! back by a walk over strong components, and `order` lists a network by a heap of what is ready.
+//! `one_order` and `one_list_of_networks` say that the definitions leave no choice.
+#![tactic(auto)]
+
+mod chains;
+mod law;
+mod marks;
+mod rank;
+mod walk;
+
+pub use law::one_order;
+pub use marks::{feedback, feedback_uncounted};
+pub use plcx_model::{Key, Source, Steps, Wire, Wires};
