@@ -19,9 +19,12 @@ elements g = length g.keys
 abbrev pub key_at : Graph → ℕ → Key
 key_at g v = get_or g.keys v (record { order = None; y = pos 0; x = pos 0; local_id = 0 })
 
--- an element that is neither a rail nor skipped
+-- whether an element can be in a network: rails and skipped elements can't
+abbrev pub takes_part : Graph → ℕ → Bool
+takes_part g v = get_or g.parts v false
+
 abbrev pub TakesPart : Graph → ℕ → Type 0
-TakesPart g v = get_or g.parts v false ≡ true
+TakesPart g v = takes_part g v ≡ true
 
 abbrev pub wire_at : List Wire → ℕ → Wire
 wire_at ws i = get_or ws i (record { from = record { element = 0; pin = 0 }; to = record { element = 0; pin = 0 } })

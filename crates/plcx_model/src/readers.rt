@@ -1,6 +1,6 @@
 //! What `Wires` tells of a body, without memory.
-ghost use Rattle.std.specs.Prelude.{◌≡◌, ◌↔◌, true, ◌<◌, ◌+◌, length};
-ghost use Rattle.plcx_model.specs.Graph.{TakesPart, elements, key_at, wire_at};
+ghost use Rattle.std.specs.Prelude.{◌≡◌, ◌<◌, ◌+◌, length};
+ghost use Rattle.plcx_model.specs.Graph.{takes_part, elements, key_at, wire_at};
 ghost use Rattle.plcx_model.specs.Shown.{graph_of};
 
 use crate::key::Key;
@@ -35,7 +35,7 @@ impl Wires {
     /// Whether an element can be in a network: rails and skipped elements can't.
     pub fn takes_part(&self, e: u32) -> bool
         requires { e < elements (graph_of self.now) }
-        ensures { (result ≡ true) ↔ TakesPart (graph_of self.now) e }
+        ensures { result ≡ takes_part (graph_of self.now) e }
     {
         self.parts[e as usize]
     }

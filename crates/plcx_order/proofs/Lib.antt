@@ -9,3 +9,8 @@ pub mod Moves
 pub mod Close
 pub mod Turns
 pub mod MarkSteps
+pub mod Least
+pub mod Counting
+pub mod RisingLists
+pub mod Listings
+pub mod AllNetworks

@@ -7,10 +7,14 @@
 
 mod chains;
 mod law;
+mod listing;
 mod marks;
 mod rank;
+mod ready;
+mod waits;
 mod walk;
 
 pub use law::one_order;
+pub use listing::{order, orders, orders_uncounted};
 pub use marks::{feedback, feedback_uncounted};
 pub use plcx_model::{Key, Source, Steps, Wire, Wires};
