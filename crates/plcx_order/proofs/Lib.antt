@@ -14,3 +14,6 @@ pub mod Counting
 pub mod RisingLists
 pub mod Listings
 pub mod AllNetworks
+pub mod LinkSteps
+pub mod Spreads
+pub mod Gathered

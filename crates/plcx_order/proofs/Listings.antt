@@ -62,7 +62,7 @@ first_decides Less b e = e
 first_decides Equal b e = refl
 first_decides Greater b e = refl
 
-not_greater : (a b : Ordering) → b ≡ ordering_reverse a → is_lt a ≡ false → is_gt b ≡ false
+pub not_greater : (a b : Ordering) → b ≡ ordering_reverse a → is_lt a ≡ false → is_gt b ≡ false
 not_greater Less b e h = absurd (let f : true ≡ false = h in cc)
 not_greater Equal b e h = ap is_gt e
 not_greater Greater b e h = ap is_gt e

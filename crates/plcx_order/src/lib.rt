@@ -6,14 +6,18 @@
 #![tactic(auto)]
 
 mod chains;
+mod classes;
 mod law;
+mod links;
 mod listing;
 mod marks;
 mod rank;
 mod ready;
+mod standing;
 mod waits;
 mod walk;
 
+pub use classes::{networks, networks_uncounted};
 pub use law::one_order;
 pub use listing::{order, orders, orders_uncounted};
 pub use marks::{feedback, feedback_uncounted};
