@@ -7,7 +7,7 @@ use Rattle.std.proofs.lemmas.Int.{ints}
 use Rattle.std.proofs.lemmas.Slice.Eq.{bytes_eq-Decides}
 use Rattle.std.proofs.lemmas.List.{length-map}
 use Rattle.std.proofs.lemmas.List.Sums.{sum_by-cons}
-use Rattle.plcx_types.specs.Name.{folded}
+use Rattle.plcx_types.specs.Name.{in_lower_case}
 use Rattle.plcx_types.specs.TypeName.{type_named}
 use Rattle.plcx_types.specs.declared.ty.Ty.TheVariants as ty
 use Rattle.plcx_meaning.specs.Base.{Path, Each, all_differ, are_distinct}
@@ -49,24 +49,24 @@ named_later : (x y : Bool) → (x || y) ≡ true → x ≡ false → y ≡ true
 named_later x y one other = elim (or_cases x y one) [ inl named ↦ absurd (both_ways x other named) | inr later ↦ later ]
 
 abbrev Lists : List Variable → List ℕ → Type 0
-Lists vs x = list_any (λ (v : Variable). bytes_eq (folded v.name) (folded x)) vs ≡ true
+Lists vs x = list_any (λ (v : Variable). bytes_eq (in_lower_case v.name) (in_lower_case x)) vs ≡ true
 
 -- a text that names a variable gives the name of one
 declared_is_listed : (vs : List Variable) (text : List ℕ) → names_one vs text ≡ true → Lists vs (declared_name vs text)
 declared_is_listed [] text one = absurd (cc)
 declared_is_listed (v ∷ vs) text one = elim (cases_Bool (is_named text v)) [
-  | inl named ↦ subst (λ x. Lists (v ∷ vs) x) (sym (cond-true (is_named text v) v.name (declared_name vs text) named)) (or_left _ _ ((bytes_eq-Decides (folded v.name) (folded v.name)).1 refl))
+  | inl named ↦ subst (λ x. Lists (v ∷ vs) x) (sym (cond-true (is_named text v) v.name (declared_name vs text) named)) (or_left _ _ ((bytes_eq-Decides (in_lower_case v.name) (in_lower_case v.name)).1 refl))
   | inr other ↦ subst (λ x. Lists (v ∷ vs) x) (sym (cond-false (is_named text v) v.name (declared_name vs text) other)) (or_right _ _ (declared_is_listed vs text (named_later _ _ one other)))
 ]
 
 -- and what is found under it is of type BOOL
 listed_is_variable : (vs : List Variable) (x : List ℕ) → Lists vs x → IsVariable (map variable_of vs) x ty.Bool
 listed_is_variable [] x listed = absurd (cc)
-listed_is_variable (v ∷ vs) x listed = elim (cases_Bool (bytes_eq (folded v.name) (folded x))) [
-  | inl same ↦ record { variable = variable_of v; found = cond-true _ (Some (variable_of v)) (variable_named (folded x) (map variable_of vs)) same; typed = refl; class = λ e. cc }
+listed_is_variable (v ∷ vs) x listed = elim (cases_Bool (bytes_eq (in_lower_case v.name) (in_lower_case x))) [
+  | inl same ↦ record { variable = variable_of v; found = cond-true _ (Some (variable_of v)) (variable_named (in_lower_case x) (map variable_of vs)) same; typed = refl; class = λ e. cc }
   | inr other ↦
       let rest = listed_is_variable vs x (named_later _ _ listed other) in
-      record { variable = rest.variable; found = cond-false _ (Some (variable_of v)) (variable_named (folded x) (map variable_of vs)) other ∙ rest.found; typed = rest.typed; class = rest.class }
+      record { variable = rest.variable; found = cond-false _ (Some (variable_of v)) (variable_named (in_lower_case x) (map variable_of vs)) other ∙ rest.found; typed = rest.typed; class = rest.class }
 ]
 
 declared_is_variable : (vs : List Variable) (text : List ℕ) → names_one vs text ≡ true → IsVariable (variables_of (list_of vs ∷ [])) (declared_name vs text) ty.Bool
@@ -75,7 +75,7 @@ declared_is_variable vs text one = subst (λ ws. IsVariable ws (declared_name vs
 -- what is found is one of the variables
 found_is_one : (vs : List Variable) (x : List ℕ) (v : layout.Variable) → variable_named x (map variable_of vs) ≡ Some v → (w : Variable) × (variable_of w ≡ v)
 found_is_one [] x v found = absurd (cc)
-found_is_one (w ∷ vs) x v found = elim (cases_Bool (bytes_eq (folded w.name) x)) [
+found_is_one (w ∷ vs) x v found = elim (cases_Bool (bytes_eq (in_lower_case w.name) x)) [
   | inl same ↦ (w, let e = rw same at found in cc)
   | inr other ↦ found_is_one vs x v (rw other at found)
 ]
@@ -85,7 +85,7 @@ declared_is_one vs x v found = found_is_one vs x v (sym (ap (variable_named x) (
 
 can_be_written : (vs : List Variable) (x : List ℕ) → CanBeWritten (variables_of (list_of vs ∷ [])) x
 can_be_written vs x v found =
-    let one = declared_is_one vs (folded x) v found in
+    let one = declared_is_one vs (in_lower_case x) v found in
     subst (λ (u : layout.Variable). (u.class ≢ Input) × (u.mark ≢ Constant)) one.1 ((λ e. cc), (λ e. cc))
 
 -- what an element that is done has fixed
@@ -216,8 +216,8 @@ diagram_fits p ns sound body networks =
       name = sound.name;
       variables = subst (Each (VariableFits project)) (sym (variables_are p.variables))
           (each-map (VariableFits project) variable_of p.variables (each-weaker _ _ p.variables (variable_fits project) sound.variables));
-      distinct = ap (λ (vs : List layout.Variable). are_distinct (map (λ (v : layout.Variable). folded v.name) vs)) (variables_are p.variables)
-          ∙ ap are_distinct (same-map variable_of (λ (v : layout.Variable). folded v.name) p.variables) ∙ sound.distinct;
+      distinct = ap (λ (vs : List layout.Variable). are_distinct (map (λ (v : layout.Variable). in_lower_case v.name) vs)) (variables_are p.variables)
+          ∙ ap are_distinct (same-map variable_of (λ (v : layout.Variable). in_lower_case v.name) p.variables) ∙ sound.distinct;
       few = subst (λ (vs : List layout.Variable). length vs ≤ 4096) (sym (variables_are p.variables)) (subst (λ n. n ≤ 4096) (sym (length-map p.variables variable_of)) sound.few);
       ids = ap all_differ (same-map (element_of p) (λ e. e.id) p.elements) ∙ body.ids;
       elements = subst (λ n. n ≤ 4096) (sym (length-map p.elements (element_of p))) sound.bounded;

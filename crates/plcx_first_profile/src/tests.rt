@@ -3,7 +3,7 @@ use crate::project_of;
 use plcx_first_model::{Connection, Kind, Pou};
 use plcx_types::Span;
 use plcx_xml::{Attribute, Element, Node, Text};
-use sqlite_items::{Boxed, Items};
+use sqlite_items::Items;
 use std::alloc::{AllocError, Global};
 use std::test::Fail;
 
@@ -48,7 +48,7 @@ fn text(alloc: Global, value: &str) -> Result<Node, AllocError> {
 }
 
 fn node(alloc: Global, element: Element) -> Result<Node, AllocError> {
-    Ok(Node::Element(Boxed::new(alloc, element)?))
+    Ok(Node::Element(element))
 }
 
 fn leaf(alloc: Global, name: &str, attributes: &[(&str, &str)]) -> Result<Node, AllocError> {

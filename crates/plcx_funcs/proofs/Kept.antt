@@ -10,7 +10,7 @@ use Rattle.std.specs.Prelude.{unsigned_abs, EachIndex, ◌≤ℤ◌, if◌then�
 use Rattle.plcx_types.specs.declared.ty.Ty.{Ty}
 use Rattle.plcx_types.specs.declared.ty.Ty.TheVariants as ty
 use Rattle.plcx_types.specs.Range.{Bounds, InRange, bounds_of, unsigned}
-use Rattle.plcx_types.specs.TypeName.{all_types, place_of_type, same_ty}
+use Rattle.plcx_types.specs.TypeName.{all_types, position_of_type, same_ty}
 use Rattle.plcx_types.specs.Value.{Value}
 use Rattle.plcx_funcs.specs.declared.func.Func.{Func}
 use Rattle.plcx_funcs.specs.declared.func.Func.TheVariants as f
@@ -22,7 +22,7 @@ use Rattle.plcx_funcs.specs.Pins.{least_inputs, input_class}
 use Rattle.plcx_funcs.specs.Applied.{FitsSignature, suits, value, value_at, width, bit_by_bit, both_bits, joined, remainder, turned, applied}
 use Rattle.plcx_funcs.proofs.Counts.{has_least}
 
-at_place : (t : Ty) → slice_index_or all_types (place_of_type t) ty.Bool ≡ t
+at_place : (t : Ty) → slice_index_or all_types (position_of_type t) ty.Bool ≡ t
 at_place ty.Bool = refl
 at_place ty.Byte = refl
 at_place ty.Word = refl
@@ -41,7 +41,7 @@ at_place ty.Time = refl
 -- types of one place are one type
 pub one_type : (t u : Ty) → same_ty t u ≡ true → u ≡ t
 one_type t u same =
-    let place : place_of_type t ≡ place_of_type u = grind (arith, same) in
+    let place : position_of_type t ≡ position_of_type u = grind (arith, same) in
     sym (at_place u) ∙ ap (λ (i : ℕ). slice_index_or all_types i ty.Bool) (sym place) ∙ at_place t
 
 -- the first argument of MOD has the type of the group

@@ -6,7 +6,7 @@ use Rattle.std.specs.List.{list_all}
 use Rattle.std.specs.Option.{option_map}
 use Rattle.std.proofs.lemmas.Bool.{and_parts}
 use Rattle.std.proofs.lemmas.List.{length-take, get_or-take}
-use Rattle.plcx_types.specs.Name.{folded}
+use Rattle.plcx_types.specs.Name.{in_lower_case}
 use Rattle.plcx_types.specs.Numeral.{is_digit}
 use Rattle.plcx_types.specs.Duration.{AreDigits}
 use Rattle.plcx_lex.specs.Lexis.{is_one_of, ArePlaces, IsAddress}
@@ -115,13 +115,13 @@ plain_finds a s rest found area narrow finds =
 
 -- ---- the same of a text in any case
 
-heads : (text : List ℕ) → 3 ≤ length text → folded text ≡ to_ascii_lowercase (get_or text 0 0) ∷ to_ascii_lowercase (get_or text 1 0) ∷ to_ascii_lowercase (get_or text 2 0) ∷ folded (drop 3 text)
+heads : (text : List ℕ) → 3 ≤ length text → in_lower_case text ≡ to_ascii_lowercase (get_or text 0 0) ∷ to_ascii_lowercase (get_or text 1 0) ∷ to_ascii_lowercase (get_or text 2 0) ∷ in_lower_case (drop 3 text)
 heads [] long = absurd (omega arith)
 heads (a ∷ []) long = absurd (omega arith)
 heads (a ∷ b ∷ []) long = absurd (omega arith)
 heads (a ∷ b ∷ c ∷ text) long = refl
 
-two_dropped : (text : List ℕ) → 3 ≤ length text → folded (drop 2 text) ≡ to_ascii_lowercase (get_or text 2 0) ∷ folded (drop 3 text)
+two_dropped : (text : List ℕ) → 3 ≤ length text → in_lower_case (drop 2 text) ≡ to_ascii_lowercase (get_or text 2 0) ∷ in_lower_case (drop 3 text)
 two_dropped [] long = absurd (omega arith)
 two_dropped (a ∷ []) long = absurd (omega arith)
 two_dropped (a ∷ b ∷ []) long = absurd (omega arith)
@@ -130,26 +130,26 @@ two_dropped (a ∷ b ∷ c ∷ text) long = refl
 percent : (b : ℕ) → to_ascii_lowercase b ≡ 37 → b ≡ 37
 percent b h = grind arith
 
-pub address_none : (text : List ℕ) → (3 ≤ length text → get_or text 0 0 ≡ 37 → is_one_of (codes "iqm") (to_ascii_lowercase (get_or text 1 0)) ≡ true → ⊥) → NoneOf IsAddress (folded text)
+pub address_none : (text : List ℕ) → (3 ≤ length text → get_or text 0 0 ≡ 37 → is_one_of (codes "iqm") (to_ascii_lowercase (get_or text 1 0)) ≡ true → ⊥) → NoneOf IsAddress (in_lower_case text)
 address_none text other = λ m le h.
-    let front = head (take m (folded text)) h in
-    let far : 3 ≤ m = omega (arith, front.long, length-take m (folded text)) in
+    let front = head (take m (in_lower_case text)) h in
+    let far : 3 ≤ m = omega (arith, front.long, length-take m (in_lower_case text)) in
     let long : 3 ≤ length text = omega (arith, folded_length text) in
     let zero_lt : 0 < m = omega arith in
     let one_lt : 1 < m = omega arith in
-    let first : to_ascii_lowercase (get_or text 0 0) ≡ 37 = sym (folded_get text 0 (omega arith)) ∙ sym (get_or-take m (folded text) 0 0 zero_lt) ∙ front.mark in
-    let second = ap (is_one_of (codes "iqm")) (sym (folded_get text 1 (omega arith)) ∙ sym (get_or-take m (folded text) 1 0 one_lt)) ∙ front.area in
+    let first : to_ascii_lowercase (get_or text 0 0) ≡ 37 = sym (folded_get text 0 (omega arith)) ∙ sym (get_or-take m (in_lower_case text) 0 0 zero_lt) ∙ front.mark in
+    let second = ap (is_one_of (codes "iqm")) (sym (folded_get text 1 (omega arith)) ∙ sym (get_or-take m (in_lower_case text) 1 0 one_lt)) ∙ front.area in
     other long (percent (get_or text 0 0) first) second
 
 pub sized_here : (text : List ℕ) (found : Option ℕ) → 3 ≤ length text → get_or text 0 0 ≡ 37 → is_one_of (codes "iqm") (to_ascii_lowercase (get_or text 1 0)) ≡ true → is_one_of (codes "xbwdl") (to_ascii_lowercase (get_or text 2 0)) ≡ true
-    → Finds (ArePlaces 8) (folded (drop 3 text)) found → Finds IsAddress (folded text) (option_map (λ n. 3 + n) found)
+    → Finds (ArePlaces 8) (in_lower_case (drop 3 text)) found → Finds IsAddress (in_lower_case text) (option_map (λ n. 3 + n) found)
 sized_here text found long mark area wide finds =
-    let whole = heads text long ∙ ap (λ b. to_ascii_lowercase b ∷ to_ascii_lowercase (get_or text 1 0) ∷ to_ascii_lowercase (get_or text 2 0) ∷ folded (drop 3 text)) mark in
-    subst (λ t. Finds IsAddress t (option_map (λ n. 3 + n) found)) (sym whole) (sized_finds (to_ascii_lowercase (get_or text 1 0)) (to_ascii_lowercase (get_or text 2 0)) (folded (drop 3 text)) found area wide finds)
+    let whole = heads text long ∙ ap (λ b. to_ascii_lowercase b ∷ to_ascii_lowercase (get_or text 1 0) ∷ to_ascii_lowercase (get_or text 2 0) ∷ in_lower_case (drop 3 text)) mark in
+    subst (λ t. Finds IsAddress t (option_map (λ n. 3 + n) found)) (sym whole) (sized_finds (to_ascii_lowercase (get_or text 1 0)) (to_ascii_lowercase (get_or text 2 0)) (in_lower_case (drop 3 text)) found area wide finds)
 
 pub plain_here : (text : List ℕ) (found : Option ℕ) → 3 ≤ length text → get_or text 0 0 ≡ 37 → is_one_of (codes "iqm") (to_ascii_lowercase (get_or text 1 0)) ≡ true → is_one_of (codes "xbwdl") (to_ascii_lowercase (get_or text 2 0)) ≡ false
-    → Finds (ArePlaces 8) (folded (drop 2 text)) found → Finds IsAddress (folded text) (option_map (λ n. 2 + n) found)
+    → Finds (ArePlaces 8) (in_lower_case (drop 2 text)) found → Finds IsAddress (in_lower_case text) (option_map (λ n. 2 + n) found)
 plain_here text found long mark area narrow finds =
-    let whole = heads text long ∙ ap (λ b. to_ascii_lowercase b ∷ to_ascii_lowercase (get_or text 1 0) ∷ to_ascii_lowercase (get_or text 2 0) ∷ folded (drop 3 text)) mark in
+    let whole = heads text long ∙ ap (λ b. to_ascii_lowercase b ∷ to_ascii_lowercase (get_or text 1 0) ∷ to_ascii_lowercase (get_or text 2 0) ∷ in_lower_case (drop 3 text)) mark in
     subst (λ t. Finds IsAddress t (option_map (λ n. 2 + n) found)) (sym whole)
-    (plain_finds (to_ascii_lowercase (get_or text 1 0)) (to_ascii_lowercase (get_or text 2 0)) (folded (drop 3 text)) found area narrow (subst (λ t. Finds (ArePlaces 8) t found) (two_dropped text long) finds))
+    (plain_finds (to_ascii_lowercase (get_or text 1 0)) (to_ascii_lowercase (get_or text 2 0)) (in_lower_case (drop 3 text)) found area narrow (subst (λ t. Finds (ArePlaces 8) t found) (two_dropped text long) finds))

@@ -6,7 +6,7 @@ use Rattle.std.proofs.lemmas.List.{length-take, length-append, take-append-drop,
 use Rattle.std.proofs.Math.Seq.{take-append_seam}
 use Rattle.std.proofs.lemmas.Bool.{cases_lt}
 use Rattle.plcx_types.specs.Reading.{behind}
-use Rattle.plcx_types.proofs.Behind.{behind_is}
+use Rattle.plcx_types.proofs.BehindWord.{behind_is}
 use Rattle.plcx_lex.specs.Scan.{LongestOf, NoneOf, Finds, Either, After, longer}
 
 -- ---- fronts

@@ -4,7 +4,7 @@ use Rattle.std.specs.List.{list_all}
 use Rattle.std.proofs.lemmas.Bool.{and_parts, and_from, leb-true, le-leb, lt-ltb}
 use Rattle.std.proofs.lemmas.List.{get_or-take, length-take, take-take}
 use Rattle.std.proofs.lemmas.List.Folds.{list_all_at}
-use Rattle.plcx_types.specs.Name.{folded, is_first_byte, is_next_byte, is_identifier}
+use Rattle.plcx_types.specs.Name.{in_lower_case, is_first_byte, is_next_byte, is_identifier}
 use Rattle.plcx_lex.specs.Number.{IsTyped}
 use Rattle.plcx_lex.specs.Lexis.{is_decimal, IsAddress, IsToken, Longest}
 use Rattle.plcx_lex.specs.declared.token.TokenKind.{TokenKind}
@@ -62,7 +62,7 @@ word_found text n some first run =
 first_kept : (text : List ℕ) (m : ℕ) → 0 < m → get_or (take m text) 0 0 ≡ get_or text 0 0
 first_kept text m pos = get_or-take m text 0 0 pos
 
-pub word_alone : (text : List ℕ) (n : ℕ) (k : TokenKind) → is_first_byte (get_or text 0 0) ≡ true → LongestOf Word text n → NoneOf Typed (folded text) → IsToken k (take n text) → Longest text k n
+pub word_alone : (text : List ℕ) (n : ℕ) (k : TokenKind) → is_first_byte (get_or text 0 0) ≡ true → LongestOf Word text n → NoneOf Typed (in_lower_case text) → IsToken k (take n text) → Longest text k n
 word_alone text n k first word none formed = record {
   within = word.within;
   formed = formed;
@@ -74,12 +74,12 @@ word_alone text n k first word none formed = record {
       ]);
 }
 
-typed_token : (text : List ℕ) → Typed (folded text) → IsToken kind.Number text
+typed_token : (text : List ℕ) → Typed (in_lower_case text) → IsToken kind.Number text
 typed_token text h = (h.0, h.5.0, subst (λ t. IsTyped t h.0 h.5.0) (sym h.3) (named_typed h.1 h.2 h.0 h.5.0 h.4 h.5.1))
 
-pub word_typed : (text : List ℕ) (n long : ℕ) → is_first_byte (get_or text 0 0) ≡ true → IsRun is_next_byte (take 128 text) n → LongestOf Word text n → LongestOf Typed (folded text) long → Longest text kind.Number long
+pub word_typed : (text : List ℕ) (n long : ℕ) → is_first_byte (get_or text 0 0) ≡ true → IsRun is_next_byte (take 128 text) n → LongestOf Word text n → LongestOf Typed (in_lower_case text) long → Longest text kind.Number long
 word_typed text n long first run word typed =
-    let parts = parts_of (folded text) n long (run_folded text n run) typed.within typed.holds in
+    let parts = parts_of (in_lower_case text) n long (run_folded text n run) typed.within typed.holds in
     let far : n < long = parts.far in
     record {
       within = omega (arith, typed.within, folded_length text);
@@ -113,7 +113,7 @@ digits_found text n some first run =
 no_token_empty : (k : TokenKind) (text : List ℕ) → length text ≡ 0 → IsToken k text → ⊥
 no_token_empty k text none is = let starts = token_starts k text is in omega (arith, starts.some)
 
-pub address_found : (text : List ℕ) (n : ℕ) → get_or text 0 0 ≡ 37 → LongestOf IsAddress (folded text) n → Longest text kind.Address n
+pub address_found : (text : List ℕ) (n : ℕ) → get_or text 0 0 ≡ 37 → LongestOf IsAddress (in_lower_case text) n → Longest text kind.Address n
 address_found text n first found = record {
   within = omega (arith, found.within, folded_length text);
   formed = subst IsAddress (sym (fold_take n text)) found.holds;
@@ -122,7 +122,7 @@ address_found text n first found = record {
       found.longest m lt (omega (arith, folded_length text)) (subst IsAddress (fold_take m text) (address_way other (take m text) (first_kept text m pos ∙ first) is)));
 }
 
-pub address_unfound : (text : List ℕ) → get_or text 0 0 ≡ 37 → NoneOf IsAddress (folded text) → NoneOf AnyToken text
+pub address_unfound : (text : List ℕ) → get_or text 0 0 ≡ 37 → NoneOf IsAddress (in_lower_case text) → NoneOf AnyToken text
 address_unfound text first none zero le h = no_token_empty h.0 [] refl h.1
 address_unfound text first none (suc m) le h =
     let pos : 0 < suc m = omega arith in

@@ -2,7 +2,7 @@
 use Rattle.std.specs.Prelude.{◌≡◌, ◌⊎◌, ◌+◌, ◌-◌, ◌<◌, ◌≤◌, ◌||◌, ℕ, suc, ℤ, Bool, true, false, nat_eq, List, [], ◌∷◌, ◌++◌, length, take, drop, slice_index, Option, Some, None, codes}
 use Rattle.std.specs.List.{list_all, list_any}
 use Rattle.std.specs.Str.{bytes_eq}
-use Rattle.plcx_types.specs.Name.{is_between, is_identifier, folded}
+use Rattle.plcx_types.specs.Name.{is_between, is_identifier, in_lower_case}
 use Rattle.plcx_types.specs.Reserved.{is_keyword}
 use Rattle.plcx_types.specs.Duration.{AreDigits}
 use Rattle.plcx_types.specs.declared.ty.Ty.{Ty}
@@ -16,7 +16,7 @@ use Rattle.plcx_lex.specs.declared.token.TokenKind.TheVariants as kind
 
 -- the words that are numbers
 abbrev pub is_truth : List ℕ → Bool
-is_truth text = bytes_eq (folded text) (codes "true") || bytes_eq (folded text) (codes "false")
+is_truth text = bytes_eq (in_lower_case text) (codes "true") || bytes_eq (in_lower_case text) (codes "false")
 
 abbrev pub is_decimal : ℕ → Bool
 is_decimal b = is_between 48 57 b
@@ -45,7 +45,7 @@ IsToken kind.Keyword text = (is_keyword text ≡ true) × (is_truth text ≡ fal
 IsToken kind.Name text = (is_identifier text ≡ true) × (is_keyword text ≡ false)
 IsToken kind.Number text = (t : Ty) × (n : ℤ) × IsLiteral text t n
 IsToken kind.Digits text = (list_all is_decimal text ≡ true) × (0 < length text)
-IsToken kind.Address text = IsAddress (folded text)
+IsToken kind.Address text = IsAddress (in_lower_case text)
 IsToken kind.Sign text = list_any (bytes_eq text) signs ≡ true
 
 -- ---- the pieces of a text

@@ -4,7 +4,7 @@ use Rattle.std.specs.Option.{option_map, option_and_then}
 use Rattle.std.specs.Str.{bytes_eq}
 use Rattle.plcx_types.specs.declared.ty.Ty.{Ty}
 use Rattle.plcx_types.specs.declared.ty.Ty.TheVariants as ty
-use Rattle.plcx_types.specs.Name.{folded, is_next_byte}
+use Rattle.plcx_types.specs.Name.{in_lower_case, is_next_byte}
 use Rattle.plcx_types.specs.TypeName.{all_types}
 use Rattle.plcx_types.specs.Literal.{type_word}
 use Rattle.plcx_types.specs.Reading.{front, back}
@@ -32,4 +32,4 @@ unfoldable pub typed_of : List ℕ → Option (Ty × ℤ)
 typed_of text = behind_word (front is_next_byte text) (back is_next_byte text)
 
 abbrev pub literal_of : List ℕ → Option (Ty × ℤ)
-literal_of text = typed_of (folded text)
+literal_of text = typed_of (in_lower_case text)

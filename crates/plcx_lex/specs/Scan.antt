@@ -3,7 +3,7 @@ use Rattle.std.specs.Prelude.{◌≡◌, ◌⊎◌, ◌<◌, ◌≤◌, ◌||◌
 use Rattle.std.specs.List.{list_all}
 use Rattle.plcx_types.specs.declared.ty.Ty.{Ty}
 use Rattle.plcx_types.specs.Name.{is_identifier, is_next_byte}
-use Rattle.plcx_types.specs.Numeral.{IsNumeral, IsWhole}
+use Rattle.plcx_types.specs.Numeral.{IsNumeral, IsWholeNumber}
 use Rattle.plcx_types.specs.Literal.{IsTruth, IsNumber}
 use Rattle.plcx_lex.specs.ReadNumber.{named}
 use Rattle.plcx_lex.specs.Lexis.{is_decimal, is_one_of, IsToken, IsBlank, NoComment}
@@ -61,7 +61,7 @@ abbrev pub Numeral : ℕ → List ℕ → Type 0
 Numeral base text = (n : ℕ) × IsNumeral base text n
 
 abbrev pub Whole : List ℕ → Type 0
-Whole text = (n : ℤ) × IsWhole text n
+Whole text = (n : ℤ) × IsWholeNumber text n
 
 abbrev pub Truth : List ℕ → Type 0
 Truth text = (n : ℤ) × IsTruth text n

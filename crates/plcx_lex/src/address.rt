@@ -1,7 +1,7 @@
 //! How long the address at the front of a text is.
 ghost use Rattle.std.specs.Prelude.{◌≡◌, codes};
 ghost use Rattle.std.specs.Char.{to_ascii_lowercase};
-ghost use Rattle.plcx_types.specs.Name.{folded};
+ghost use Rattle.plcx_types.specs.Name.{in_lower_case};
 ghost use Rattle.plcx_lex.specs.Lexis.{is_one_of, ArePlaces, IsAddress};
 ghost use Rattle.plcx_lex.specs.Scan.{Finds};
 
@@ -23,7 +23,7 @@ fn is_size(byte: u8) -> bool
 
 /// How long the longest list of places is.
 fn places_len(most: usize, text: &[u8]) -> Option<usize>
-    ensures { Finds (ArePlaces most) (folded text.now) result }
+    ensures { Finds (ArePlaces most) (in_lower_case text.now) result }
 {
     let n = run_len(Class::Decimal, front(9, text));
     if most == 0 || n == 0 {
@@ -40,7 +40,7 @@ fn places_len(most: usize, text: &[u8]) -> Option<usize>
 
 /// How long the longest address is.
 pub(crate) fn address_len(text: &[u8]) -> Option<usize>
-    ensures { Finds IsAddress (folded text.now) result }
+    ensures { Finds IsAddress (in_lower_case text.now) result }
 {
     if text.len() < 3 || text[0] != b'%' || !is_area(text[1]) {
         return None;

@@ -2,7 +2,7 @@
 ghost use Rattle.std.specs.Prelude.{◌≡◌, ℤ, IfSome, IfNone, Some, None};
 ghost use Rattle.std.specs.Str.{bytes_eq};
 ghost use Rattle.plcx_types.specs.declared.ty.Ty.{Ty};
-ghost use Rattle.plcx_types.specs.Name.{folded};
+ghost use Rattle.plcx_types.specs.Name.{in_lower_case};
 ghost use Rattle.plcx_types.specs.Literal.{type_word};
 ghost use Rattle.plcx_types.specs.ReadLiteral.{truth};
 ghost use Rattle.plcx_lex.specs.Number.{IsLiteral};
@@ -51,14 +51,14 @@ fn type_word(ty: Ty) -> &'static [u8]
 
 #[tactic(auto, using(crate::proofs::Numbers::type_word_folded))]
 fn reads(ty: Ty, word: &[u8]) -> bool
-    ensures { result ≡ bytes_eq (folded word.now) (type_word ty) }
+    ensures { result ≡ bytes_eq (in_lower_case word.now) (type_word ty) }
 {
     word.eq_ignore_ascii_case(type_word(ty))
 }
 
 #[tactic(auto, unfolding(crate::specs::ReadNumber::first_named))]
 fn first_named(types: &[Ty], word: &[u8]) -> Option<Ty>
-    ensures { result ≡ first_named types.now (folded word.now) }
+    ensures { result ≡ first_named types.now (in_lower_case word.now) }
 {
     for ty in types {
         if reads(*ty, word) {
@@ -70,7 +70,7 @@ fn first_named(types: &[Ty], word: &[u8]) -> Option<Ty>
 
 /// The type that a word before `#` names.
 pub(crate) fn named(word: &[u8]) -> Option<Ty>
-    ensures { result ≡ named (folded word.now) }
+    ensures { result ≡ named (in_lower_case word.now) }
 {
     if word.eq_ignore_ascii_case(b"t") {
         Some(Ty::Time)
@@ -81,7 +81,7 @@ pub(crate) fn named(word: &[u8]) -> Option<Ty>
 
 /// The number of a word that is one: TRUE or FALSE.
 pub(crate) fn truth(word: &[u8]) -> Option<i128>
-    ensures { result ≡ truth (folded word.now) }
+    ensures { result ≡ truth (in_lower_case word.now) }
 {
     if word.eq_ignore_ascii_case(b"true") {
         Some(1)
@@ -94,7 +94,7 @@ pub(crate) fn truth(word: &[u8]) -> Option<i128>
 
 #[tactic(auto, unfolding(crate::specs::ReadNumber::behind_word))]
 fn behind_word(word: &[u8], rest: &[u8]) -> Option<(Ty, i128)>
-    ensures { result ≡ behind_word (folded word.now) (folded rest.now) }
+    ensures { result ≡ behind_word (in_lower_case word.now) (in_lower_case rest.now) }
 {
     match rest {
         [] => {

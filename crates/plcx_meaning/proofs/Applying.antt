@@ -7,7 +7,7 @@ use Rattle.std.specs.declared.result.Result.TheVariants.{Ok, Err}
 use Rattle.plcx_types.specs.declared.fault.Fault.{Fault}
 use Rattle.plcx_types.specs.declared.ty.Ty.{Ty}
 use Rattle.plcx_types.specs.declared.ty.Ty.TheVariants as ty
-use Rattle.plcx_types.specs.Name.{folded}
+use Rattle.plcx_types.specs.Name.{in_lower_case}
 use Rattle.plcx_types.specs.Value.{Value}
 use Rattle.plcx_funcs.specs.declared.func.Func.{Func}
 use Rattle.plcx_funcs.specs.Applied.{value, applied}
@@ -33,7 +33,7 @@ out = codes "OUT"
 
 -- of two assignments to one temporary the second stays
 pub hold_twice : (f : Frame) (x : List ℕ) (n m : ℤ) → hold (hold f x n) x m ≡ hold f x m
-hold_twice f x n m = fun_ext (λ key. by (bytes_eq key (folded x)) key)
+hold_twice f x n m = fun_ext (λ key. by (bytes_eq key (in_lower_case x)) key)
   where
     by : (b : Bool) (key : List ℕ) → (if b then m else (if b then n else f key)) ≡ (if b then m else f key)
     by true key = refl
@@ -127,7 +127,7 @@ module _ (c : Here) (call : Invoked) where
         by false = refl
 
     -- ENO's wire among those behind OUT
-    eno_same : (b : Bool) (id : ℕ) (o : Port) (ws' : Wires) (f' : Frame) → SameWires ((id, o) ∷ (eno_fixed b id ++ done)) ws' f' → b ≡ true → ws' id eno ≡ f' (folded (wire_name id eno))
+    eno_same : (b : Bool) (id : ℕ) (o : Port) (ws' : Wires) (f' : Frame) → SameWires ((id, o) ∷ (eno_fixed b id ++ done)) ws' f' → b ≡ true → ws' id eno ≡ f' (in_lower_case (wire_name id eno))
     eno_same true id o ws' f' same h = same.1.0
     eno_same false id o ws' f' same h = absurd (cc)
 

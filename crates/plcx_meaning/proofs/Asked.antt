@@ -3,7 +3,7 @@ use Rattle.std.specs.Prelude.{◌≡◌, ◌≢◌, ◌<◌, ◌^◌, ℕ, ℤ, 
 use Rattle.std.specs.List.{Contains}
 use Rattle.plcx_types.specs.declared.ty.Ty.{Ty}
 use Rattle.plcx_types.specs.declared.ty.Ty.TheVariants as ty
-use Rattle.plcx_types.specs.Name.{folded}
+use Rattle.plcx_types.specs.Name.{in_lower_case}
 use Rattle.plcx_funcs.specs.declared.func.Func.{Func}
 use Rattle.plcx_funcs.specs.Names.{is_function}
 use Rattle.plcx_funcs.specs.Applied.{value}
@@ -61,7 +61,7 @@ EnableAsked c done enable = (link : Link) → enable.en ≡ Some link → TruthA
 pub record InputAsked (c : Here) (done : List (ℕ × Port)) (instance : List ℕ) (i : Input) : Type 0 where
   pub formal : formal_named c instance i.name ≡ Takes i.link.ty
   pub link : LinkAsked c done i.link
-  pub declared : is_declared (folded i.name ∷ []) ≡ true
+  pub declared : is_declared (in_lower_case i.name ∷ []) ≡ true
 
 pub record InOutAsked (c : Here) (vs : List Variable) (instance : List ℕ) (i : InOut) : Type 0 where
   pub ty : Ty
@@ -69,17 +69,17 @@ pub record InOutAsked (c : Here) (vs : List Variable) (instance : List ℕ) (i :
   pub variable : VariableAsked c vs i.variable ty
 
 pub record OutputAsked (c : Here) (instance : List ℕ) (o : Output') : Type 0 where
-  pub reads : (p : Path) (s : Path → ℤ) → read_output c.world (variable_named (folded o.name) (parts_named c instance)) p s ≡ Given (value o.ty (s p))
+  pub reads : (p : Path) (s : Path → ℤ) → read_output c.world (variable_named (in_lower_case o.name) (parts_named c instance)) p s ≡ Given (value o.ty (s p))
   pub negated : o.negated ≡ true → o.ty ≡ ty.Bool
-  pub declared : is_declared (folded o.name ∷ []) ≡ true
+  pub declared : is_declared (in_lower_case o.name ∷ []) ≡ true
 
 pub record CallAsked (c : Here) (vs : List Variable) (done : List (ℕ × Port)) (instance : List ℕ) (taken : List Input) (bound : List InOut) (given : List Output') : Type 0 where
   -- the instance, in the diagram and in the text
   pub variable : Variable
-  pub found : variable_named (folded instance) vs ≡ Some variable
+  pub found : variable_named (in_lower_case instance) vs ≡ Some variable
   pub composite : type_named variable.ty ≡ None
   pub place : place_of c instance ≡ Instance variable.ty
-  pub declared : is_declared (folded instance ∷ []) ≡ true
+  pub declared : is_declared (in_lower_case instance ∷ []) ≡ true
   pub inputs : Each (InputAsked c done instance) taken
   pub in_outs : Each (InOutAsked c vs instance) bound
   pub all : all_bound (map input_text taken ++ map in_out_text bound) (parts_named c instance) ≡ true
@@ -122,7 +122,7 @@ pub record BodyAsked (c : Here) (vs : List Variable) (body : List (List Element)
 
 -- equal values of the wires that are fixed so far
 abbrev pub SameWires : List (ℕ × Port) → Wires → Frame → Type 0
-SameWires done ws f = Each (λ (d : ℕ × Port). ws d.0 d.1.pin ≡ f (folded (wire_name d.0 d.1.pin))) done
+SameWires done ws f = Each (λ (d : ℕ × Port). ws d.0 d.1.pin ≡ f (in_lower_case (wire_name d.0 d.1.pin))) done
 
 -- the outputs that are fixed behind all of these elements
 abbrev pub done_after : List Element → List (ℕ × Port) → List (ℕ × Port)
@@ -131,7 +131,7 @@ done_after (e ∷ es) done = done_after es (fixed_by e ++ done)
 
 -- the blocks of the instances among these variables do the same, however they are evaluated and run
 abbrev pub CallsAlike : List Variable → Called → Invoked → Type 0
-CallsAlike vs called call = (i : List ℕ) (v : Variable) → variable_named (folded i) vs ≡ Some v → type_named v.ty ≡ None
+CallsAlike vs called call = (i : List ℕ) (v : Variable) → variable_named (in_lower_case i) vs ≡ Some v → type_named v.ty ≡ None
     → (site : Site) → IsDeclared site → (d : Diagram) (g : Run) → Agree d g → Alike Nothing (called v.ty site d) (call v.ty site g)
 
 -- elements one after another do what their text does

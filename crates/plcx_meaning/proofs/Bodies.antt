@@ -2,7 +2,7 @@
 use Rattle.std.proofs.Common.{◌≡◌, ◌≤◌, ℕ, zero, suc, ◌+◌, pos, Bool, true, false, List, [], ◌∷◌, ◌++◌, length, Option, Some, None, refl, sym, ap, ◌∙◌, subst, arith, if◌then◌else◌, slice_get, map, eq-eqb, ne_eqb, lt-ltb, le-ltb}
 use Rattle.std.proofs.lemmas.Option.{slice_get_within}
 use Rattle.plcx_types.specs.declared.ty.Ty.TheVariants as ty
-use Rattle.plcx_types.specs.Name.{folded}
+use Rattle.plcx_types.specs.Name.{in_lower_case}
 use Rattle.plcx_types.specs.Value.{Value}
 use Rattle.plcx_funcs.specs.Applied.{value}
 use Rattle.plcx_meaning.specs.Base.{Each, is_true, OutOfTurns, Outcome, Ended, Stopped, then_do, spend}
@@ -23,7 +23,7 @@ use Rattle.plcx_meaning.proofs.BodiesSteps.{then_ended, run_append, run_within, 
 
 -- the wires, and the number of the network that follows
 abbrev pub AtNext : List (ℕ × Port) → (Wires → ℕ) → Wires → Frame → Type 0
-AtNext done next ws f = SameWires done ws f × (f (folded counter_name) ≡ pos (next ws))
+AtNext done next ws f = SameWires done ws f × (f (in_lower_case counter_name) ≡ pos (next ws))
 
 -- behind a body its temporaries no longer count
 abbrev pub Anything : Unit {0} → Frame → Type 0
@@ -61,11 +61,11 @@ module _ (c : Here) (vs : List Variable) (called : Called) (call : Invoked) (net
     -- it is none of the wires
     counted : (done : List (ℕ × Port)) (ws : Wires) (f : Frame) (n : ℕ) → SameWires done ws f → SameWires done ws (hold f counter_name (pos n))
     counted done ws f n same =
-        each_weaker _ _ done (λ d h. h ∙ sym (ap (λ b. if b then pos n else f (folded (wire_name d.0 d.1.pin))) (wire_not_counter d.0 d.1.pin))) same
+        each_weaker _ _ done (λ d h. h ∙ sym (ap (λ b. if b then pos n else f (in_lower_case (wire_name d.0 d.1.pin))) (wire_not_counter d.0 d.1.pin))) same
 
     -- one jump or return
     goes : (id to : ℕ) → place_of c (wire_name id []) ≡ Temporary ty.Bool → (done : List (ℕ × Port)) (other : Wires → ℕ) (d : Diagram) (ws : Wires) (g : Run) (f : Frame)
-        → ws id [] ≡ f (folded (wire_name id [])) → Agree d g → AtNext done other ws f
+        → ws id [] ≡ f (in_lower_case (wire_name id [])) → Agree d g → AtNext done other ws f
         → Alike (AtNext done (λ l. chosen (Some to) (l id []) (other l))) (Ended d ws) (run_list (If (wire id []) (statements (Assign counter_name (dint to) ∷ [])) ∷ []) c call g f)
     goes id to temporary done other d ws g f same a at = alike_as _ _ (then_ended _ ∙ known) (by_test (is_true (ws id [])) refl)
       where
@@ -77,13 +77,13 @@ module _ (c : Here) (vs : List Variable) (called : Called) (call : Invoked) (net
         by_test false e = both_end a (at.0, at.1 ∙ ap pos (sym (ap (λ b. if b then to else other ws) e)))
 
     choice_alike : (e : Element) (before done : List (ℕ × Port)) → OwnAsked c e → (other : Wires → ℕ) (d : Diagram) (ws : Wires) (g : Run) (f : Frame)
-        → Each (λ (o : ℕ × Port). ws o.0 o.1.pin ≡ f (folded (wire_name o.0 o.1.pin))) (fixed_by e) → Agree d g → AtNext done other ws f
+        → Each (λ (o : ℕ × Port). ws o.0 o.1.pin ≡ f (in_lower_case (wire_name o.0 o.1.pin))) (fixed_by e) → Agree d g → AtNext done other ws f
         → Alike (AtNext done (λ l. chosen (leads_to networks e.kind) (l e.id []) (other l))) (Ended d ws) (run_list (choice_text networks e) c call g f)
     choice_alike e before done own other d ws g f same a at = by_kind e.kind own.wires same
       where
         by_kind : (k : Kind)
             → Each (λ (o : Port). place_of c (wire_name e.id o.pin) ≡ Temporary o.ty) (ports k)
-            → Each (λ (o : ℕ × Port). ws o.0 o.1.pin ≡ f (folded (wire_name o.0 o.1.pin))) (map (λ (o : Port). (e.id, o)) (ports k))
+            → Each (λ (o : ℕ × Port). ws o.0 o.1.pin ≡ f (in_lower_case (wire_name o.0 o.1.pin))) (map (λ (o : Port). (e.id, o)) (ports k))
             → Alike (AtNext done (λ l. chosen (leads_to networks k) (l e.id []) (other l))) (Ended d ws)
             (run_list (elim (leads_to networks k) [ Some n ↦ If (wire e.id []) (statements (Assign counter_name (dint n) ∷ [])) ∷ [] | None ↦ [] ]) c call g f)
         by_kind (Jump label link) wires known = goes e.id (target label networks) wires.0 done other d ws g f known.0 a at
@@ -107,8 +107,8 @@ module _ (c : Here) (vs : List Variable) (called : Called) (call : Invoked) (net
         alike_as _ _ (run_append (choices_text networks es) (choice_text networks e) c call g f)
         (alike_then (Ended d ws) _ (λ d' ws'. Ended d' ws') _ (choices_alike es next (fixed_by e ++ before) asked.3 d ws g f a at) (λ d' ws' g' f' a' at'.
         choice_alike e before done asked.0 (successor networks es next) d' ws' g' f'
-        (each_before (λ (o : ℕ × Port). ws' o.0 o.1.pin ≡ f' (folded (wire_name o.0 o.1.pin))) (fixed_by e) before
-        (each_behind (λ (o : ℕ × Port). ws' o.0 o.1.pin ≡ f' (folded (wire_name o.0 o.1.pin))) es (fixed_by e ++ before) at'.0)).0
+        (each_before (λ (o : ℕ × Port). ws' o.0 o.1.pin ≡ f' (in_lower_case (wire_name o.0 o.1.pin))) (fixed_by e) before
+        (each_behind (λ (o : ℕ × Port). ws' o.0 o.1.pin ≡ f' (in_lower_case (wire_name o.0 o.1.pin))) es (fixed_by e ++ before) at'.0)).0
         a' at'))
 
     -- one network and its arm
@@ -139,20 +139,20 @@ module _ (c : Here) (vs : List Variable) (called : Called) (call : Invoked) (net
     abbrev loop_body : Run → Frame → Outcome Run Frame
     loop_body = run_statements (statements (Case (Name counter_name) (arms (arms_text networks 0 networks)) ∷ [])) c call
 
-    case_at : (i : ℕ) (es : List Element) (g : Run) (f : Frame) → f (folded counter_name) ≡ pos i → slice_get networks i ≡ Some es
+    case_at : (i : ℕ) (es : List Element) (g : Run) (f : Frame) → f (in_lower_case counter_name) ≡ pos i → slice_get networks i ≡ Some es
         → loop_body g f ≡ run_list (turn_text networks (i + 1) es) c call g f
     case_at i es g f at e =
-        let found : run_statement (Case (Name counter_name) (arms (arms_text networks 0 networks))) c call g f ≡ run_arms (arms (arms_text networks 0 networks)) c call (f (folded counter_name)) g f = rw (counter) refl in
+        let found : run_statement (Case (Name counter_name) (arms (arms_text networks 0 networks))) c call g f ≡ run_arms (arms (arms_text networks 0 networks)) c call (f (in_lower_case counter_name)) g f = rw (counter) refl in
         then_ended _ ∙ found ∙ ap (λ n. run_arms (arms (arms_text networks 0 networks)) c call n g f) at ∙ arm_at networks 0 i i es g f (omega arith) e
 
-    past : (i : ℕ) (g : Run) (f : Frame) → f (folded counter_name) ≡ pos i → slice_get networks i ≡ None → loop_test g f ≡ Given (value ty.Bool (pos 0))
+    past : (i : ℕ) (g : Run) (f : Frame) → f (in_lower_case counter_name) ≡ pos i → slice_get networks i ≡ None → loop_test g f ≡ Given (value ty.Bool (pos 0))
     past i g f at e = rw (counter, at, le-ltb i (length networks) (none_past networks i e)) refl
 
-    within : (i : ℕ) (es : List Element) (g : Run) (f : Frame) → f (folded counter_name) ≡ pos i → slice_get networks i ≡ Some es → loop_test g f ≡ Given (value ty.Bool (pos 1))
+    within : (i : ℕ) (es : List Element) (g : Run) (f : Frame) → f (in_lower_case counter_name) ≡ pos i → slice_get networks i ≡ Some es → loop_test g f ≡ Given (value ty.Bool (pos 1))
     within i es g f at e = rw (counter, at, lt-ltb i (length networks) (slice_get_within networks i es e)) refl
 
     -- the loop from a network on; both sides have the same count of turns
-    jumping_alike : Each (ElementsAsked c vs []) networks → (n i : ℕ) (d : Diagram) (g : Run) (f : Frame) → Agree d g → f (folded counter_name) ≡ pos i
+    jumping_alike : Each (ElementsAsked c vs []) networks → (n i : ℕ) (d : Diagram) (g : Run) (f : Frame) → Agree d g → f (in_lower_case counter_name) ≡ pos i
         → Alike Anything (jumping n networks setting i d) (turns n loop_test loop_body g f)
     jumping_alike asked zero i d g f a at = by_network (slice_get networks i) refl
       where
@@ -167,7 +167,7 @@ module _ (c : Here) (vs : List Variable) (called : Called) (call : Invoked) (net
         turn : List Element → ℕ → Outcome Diagram (Unit {0})
         turn es left = then_do (elements_do es setting (record d { left = left }) no_wires) (λ d' ws. jumping n networks setting (successor networks es (i + 1) ws) d')
 
-        by_network : ((j : ℕ) (d : Diagram) (g : Run) (f : Frame) → Agree d g → f (folded counter_name) ≡ pos j → Alike Anything (jumping n networks setting j d) (turns n loop_test loop_body g f))
+        by_network : ((j : ℕ) (d : Diagram) (g : Run) (f : Frame) → Agree d g → f (in_lower_case counter_name) ≡ pos j → Alike Anything (jumping n networks setting j d) (turns n loop_test loop_body g f))
             → (o : Option (List Element)) → slice_get networks i ≡ o → Alike Anything (at_network o d (λ es. spend d.left d (turn es))) (turns (suc n) loop_test loop_body g f)
         by_network again None e = alike_as _ _ (ap (λ v. with_truth v g (λ b. if b then spend g.left g rest else Ended g f)) (past i g f at e)) (both_end a tt)
         by_network again (Some es) e =

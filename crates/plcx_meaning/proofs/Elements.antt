@@ -2,7 +2,7 @@
 use Rattle.std.proofs.Common.{◌≡◌, ℕ, ◌<◌, ◌^◌, true, List, [], ◌∷◌, ◌++◌, map, refl, sym, ap, ◌∙◌}
 use Rattle.std.specs.List.{Contains}
 use Rattle.plcx_types.specs.declared.ty.Ty.TheVariants as ty
-use Rattle.plcx_types.specs.Name.{folded}
+use Rattle.plcx_types.specs.Name.{in_lower_case}
 use Rattle.plcx_funcs.specs.Applied.{value}
 use Rattle.plcx_meaning.specs.Base.{AtEdge, AtOutput, Each, Ended, then_do, not_if}
 use Rattle.plcx_meaning.specs.Layout.{Variable}
@@ -36,10 +36,10 @@ coil_has RisingCoil x link = refl
 coil_has FallingCoil x link = refl
 
 -- the wire of one of an element's outputs
-of_ports : (id : ℕ) (outs : List Port) (o : Port) (done : List (ℕ × Port)) (ws : Wires) (f : Frame) → SameWires (map (λ (p : Port). (id, p)) outs ++ done) ws f → Contains outs o → ws id o.pin ≡ f (folded (wire_name id o.pin))
-of_ports id outs o done ws f same there = each_at (λ (p : Port). ws id p.pin ≡ f (folded (wire_name id p.pin))) outs o (fronts outs same) there
+of_ports : (id : ℕ) (outs : List Port) (o : Port) (done : List (ℕ × Port)) (ws : Wires) (f : Frame) → SameWires (map (λ (p : Port). (id, p)) outs ++ done) ws f → Contains outs o → ws id o.pin ≡ f (in_lower_case (wire_name id o.pin))
+of_ports id outs o done ws f same there = each_at (λ (p : Port). ws id p.pin ≡ f (in_lower_case (wire_name id p.pin))) outs o (fronts outs same) there
   where
-    fronts : (outs : List Port) → SameWires (map (λ (p : Port). (id, p)) outs ++ done) ws f → Each (λ (p : Port). ws id p.pin ≡ f (folded (wire_name id p.pin))) outs
+    fronts : (outs : List Port) → SameWires (map (λ (p : Port). (id, p)) outs ++ done) ws f → Each (λ (p : Port). ws id p.pin ≡ f (in_lower_case (wire_name id p.pin))) outs
     fronts [] s = tt
     fronts (p ∷ ps) s = (s.0, fronts ps s.1)
 

@@ -3,7 +3,7 @@ use Rattle.std.proofs.Common.{◌≡◌, ℕ, ℤ, pos, ◌<◌, ◌^◌, Bool, 
 use Rattle.std.specs.Str.{bytes_eq}
 use Rattle.std.proofs.lemmas.Bool.{eq-eqb}
 use Rattle.plcx_types.specs.declared.ty.Ty.TheVariants as ty
-use Rattle.plcx_types.specs.Name.{folded}
+use Rattle.plcx_types.specs.Name.{in_lower_case}
 use Rattle.plcx_funcs.specs.Applied.{value}
 use Rattle.plcx_meaning.specs.Base.{is_true, not_of, Each, Outcome, Ended, Stopped, Stuck}
 use Rattle.plcx_meaning.specs.Tree.{Not}
@@ -59,7 +59,7 @@ module _ (c : Here) (call : Invoked) where
 
   -- a wire under NOT
   pub turn_alike : (b : Bool) (id : ℕ) → id < 2 ^ 64 → (pin : List ℕ) (done : List (ℕ × Port)) (d : Diagram) (ws : Wires) (g : Run) (f : Frame) → Agree d g → SameWires done ws f
-      → (b ≡ true → (place_of c (wire_name id pin) ≡ Temporary ty.Bool) × (ws id pin ≡ f (folded (wire_name id pin))))
+      → (b ≡ true → (place_of c (wire_name id pin) ≡ Temporary ty.Bool) × (ws id pin ≡ f (in_lower_case (wire_name id pin))))
       → Alike (SameWires done) (Ended d (turn b id pin ws)) (run_list (turned_if b id pin) c call g f)
   turn_alike false id small pin done d ws g f a same asked = both_end a same
   turn_alike true id small pin done d ws g f a same asked =
@@ -86,9 +86,9 @@ fixed_ports enable id = by (has_eno enable)
     by false = refl
 
 -- ENO's temporary is none of another pin's
-pub eno_apart : (id : ℕ) → id < 2 ^ 64 → (pin : List ℕ) (n : ℤ) (f : Frame) → bytes_eq (folded eno) (folded pin) ≡ false → hold f (wire_name id pin) n (folded (wire_name id eno)) ≡ f (folded (wire_name id eno))
+pub eno_apart : (id : ℕ) → id < 2 ^ 64 → (pin : List ℕ) (n : ℤ) (f : Frame) → bytes_eq (in_lower_case eno) (in_lower_case pin) ≡ false → hold f (wire_name id pin) n (in_lower_case (wire_name id eno)) ≡ f (in_lower_case (wire_name id eno))
 eno_apart id small pin n f apart =
-    ap (λ b. if b then n else f (folded (wire_name id eno))) (same_wires_to id eno id pin small ∙ ap (λ b. b && bytes_eq (folded eno) (folded pin)) (eq-eqb id id refl) ∙ apart)
+    ap (λ b. if b then n else f (in_lower_case (wire_name id eno))) (same_wires_to id eno id pin small ∙ ap (λ b. b && bytes_eq (in_lower_case eno) (in_lower_case pin)) (eq-eqb id id refl) ∙ apart)
 
 -- the relation may be weaker
 pub alike_weaker : {L K : Type 0} {R : L → K → Type 0} {S : L → K → Type 0} (o : Outcome Diagram L) (p : Outcome Run K) → Alike R o p → ((l : L) (k : K) → R l k → S l k) → Alike S o p
@@ -110,8 +110,8 @@ of_eno P true all h = all.0
 of_eno P false all h = absurd (cc)
 
 -- what the temporary of ENO holds behind an assignment to another
-pub eno_kept : (b : Bool) → b ≡ true → (id : ℕ) → id < 2 ^ 64 → (pin : List ℕ) (n v : ℤ) (f : Frame) → bytes_eq (folded eno) (folded pin) ≡ false → hold (eno_held b id v f) (wire_name id pin) n (folded (wire_name id eno)) ≡ v
-eno_kept true h id small pin n v f apart = eno_apart id small pin n (hold f (wire_name id eno) v) apart ∙ ap (λ b. if b then v else f (folded (wire_name id eno))) (bytes_self (folded (wire_name id eno)))
+pub eno_kept : (b : Bool) → b ≡ true → (id : ℕ) → id < 2 ^ 64 → (pin : List ℕ) (n v : ℤ) (f : Frame) → bytes_eq (in_lower_case eno) (in_lower_case pin) ≡ false → hold (eno_held b id v f) (wire_name id pin) n (in_lower_case (wire_name id eno)) ≡ v
+eno_kept true h id small pin n v f apart = eno_apart id small pin n (hold f (wire_name id eno) v) apart ∙ ap (λ b. if b then v else f (in_lower_case (wire_name id eno))) (bytes_self (in_lower_case (wire_name id eno)))
 eno_kept false h id small pin n v f apart = absurd (cc)
 
 -- a connected EN has an ENO

@@ -5,7 +5,7 @@ use Rattle.std.specs.List.{Contains}
 use Rattle.std.specs.Option.{option_map}
 use Rattle.std.proofs.lemmas.Bool.{and_parts, and_from}
 use Rattle.plcx_types.specs.declared.ty.Ty.{Ty}
-use Rattle.plcx_types.specs.Name.{folded}
+use Rattle.plcx_types.specs.Name.{in_lower_case}
 use Rattle.plcx_types.specs.Reserved.{is_own}
 use Rattle.plcx_meaning.specs.Base.{Path, is_declared, Memory, Outcome, Ended, Stopped, Stuck, Each}
 use Rattle.plcx_meaning.specs.Tree.{Mark}
@@ -40,11 +40,11 @@ leaf_outside c p t mark = ((λ h. outside_declared p (and_parts (is_outside p) (
 variable_outside : (inner : Path → List Variable → List Leaf) → ((p : Path) (vs : List Variable) → Each IsOutside (inner p vs)) → (c : Scope) (p : Path) (v : Variable) → Each IsOutside (variable_leaves inner c p v)
 variable_outside inner all c p v = by_class (is_kept v.class)
   where
-    by_meaning : (m : Meaning) → Each IsOutside (elim m [ Elementary t ↦ leaf_of c (folded v.name ∷ p) t v.mark ∷ [] | Composed vs ↦ inner (folded v.name ∷ p) vs ])
-    by_meaning (Elementary t) = (leaf_outside c (folded v.name ∷ p) t v.mark, tt)
-    by_meaning (Composed vs) = all (folded v.name ∷ p) vs
+    by_meaning : (m : Meaning) → Each IsOutside (elim m [ Elementary t ↦ leaf_of c (in_lower_case v.name ∷ p) t v.mark ∷ [] | Composed vs ↦ inner (in_lower_case v.name ∷ p) vs ])
+    by_meaning (Elementary t) = (leaf_outside c (in_lower_case v.name ∷ p) t v.mark, tt)
+    by_meaning (Composed vs) = all (in_lower_case v.name ∷ p) vs
 
-    by_class : (b : Bool) → Each IsOutside (if b then (elim (meaning c.world v.ty) [ Elementary t ↦ leaf_of c (folded v.name ∷ p) t v.mark ∷ [] | Composed vs ↦ inner (folded v.name ∷ p) vs ]) else [])
+    by_class : (b : Bool) → Each IsOutside (if b then (elim (meaning c.world v.ty) [ Elementary t ↦ leaf_of c (in_lower_case v.name ∷ p) t v.mark ∷ [] | Composed vs ↦ inner (in_lower_case v.name ∷ p) vs ]) else [])
     by_class true = by_meaning (meaning c.world v.ty)
     by_class false = tt
 
@@ -108,20 +108,20 @@ module _ (project : Project) (fits : ProjectFits project) (p : Pou) (there : Con
   begin_agrees kept = record {
     state = record {
       stores = λ q h. begun_same c e (worlds_extend project fits) owns kept q h;
-      memories = λ q k h. sym (begun_own c e (worlds_extend project fits) owns kept (folded (memory_name k)) q (memory_own k) h);
+      memories = λ q k h. sym (begun_own c e (worlds_extend project fits) owns kept (in_lower_case (memory_name k)) q (memory_own k) h);
       lefts = refl;
     };
     halted = refl;
   }
 
   memories_restart : (r : Restart) (d : Diagram) (g : Run) → Agree d g → (q : Path) (k : Memory) → is_declared q ≡ true
-      → restarted_memories c r d.memories q k ≡ restarted e r g.store (folded (memory_name k) ∷ q)
+      → restarted_memories c r d.memories q k ≡ restarted e r g.store (in_lower_case (memory_name k) ∷ q)
   memories_restart Warm d g a q k h =
       ap₂ (λ b v. if b then d.memories q k else v)
-      (sym (own_retained c e (worlds_extend project fits) owns (folded (memory_name k)) q (memory_own k) h))
-      (sym (own_initial c e (worlds_extend project fits) owns (folded (memory_name k)) q (memory_own k) h))
-      ∙ ap (λ v. if is_retained e (folded (memory_name k) ∷ q) then v else initial_at e (folded (memory_name k) ∷ q)) (a.memories q k h)
-  memories_restart Cold d g a q k h = sym (own_initial c e (worlds_extend project fits) owns (folded (memory_name k)) q (memory_own k) h)
+      (sym (own_retained c e (worlds_extend project fits) owns (in_lower_case (memory_name k)) q (memory_own k) h))
+      (sym (own_initial c e (worlds_extend project fits) owns (in_lower_case (memory_name k)) q (memory_own k) h))
+      ∙ ap (λ v. if is_retained e (in_lower_case (memory_name k) ∷ q) then v else initial_at e (in_lower_case (memory_name k) ∷ q)) (a.memories q k h)
+  memories_restart Cold d g a q k h = sym (own_initial c e (worlds_extend project fits) owns (in_lower_case (memory_name k)) q (memory_own k) h)
 
   restart_agrees : (r : Restart) (d : Diagram) (g : Run) → Agree d g → Agree ((diagram_machine project p).restart r d) ((text_machine (unit_of project) (pou_text p)).restart r g)
   restart_agrees r d g a = record {

@@ -6,7 +6,7 @@ use Rattle.std.specs.Str.{bytes_eq}
 use Rattle.std.proofs.lemmas.Bool.{and_parts}
 use Rattle.plcx_types.specs.declared.ty.Ty.{Ty}
 use Rattle.plcx_types.specs.declared.ty.Ty.TheVariants as ty
-use Rattle.plcx_types.specs.Name.{folded, is_identifier, is_next_byte}
+use Rattle.plcx_types.specs.Name.{in_lower_case, is_identifier, is_next_byte}
 use Rattle.plcx_types.specs.TypeName.{type_named}
 use Rattle.plcx_std.specs.Kind.{kind_named}
 use Rattle.plcx_meaning.specs.Base.{Each, are_distinct}
@@ -28,7 +28,7 @@ picked P false w v o here there e = there e
 
 of_named : (P : Variable → Type 0) (x : List ℕ) (vs : List Variable) → Each P vs → (v : Variable) → variable_named x vs ≡ Some v → P v
 of_named P x [] each v e = absurd (let h : None ≡ Some v = e in cc)
-of_named P x (w ∷ vs) each v e = picked P (bytes_eq (folded w.name) x) w v (variable_named x vs) each.0 (of_named P x vs each.1 v) e
+of_named P x (w ∷ vs) each v e = picked P (bytes_eq (in_lower_case w.name) x) w v (variable_named x vs) each.0 (of_named P x vs each.1 v) e
 
 -- a type that is elementary nests nothing
 record NestsBy (n : ℕ) (project : Project) (v : Variable) : Type 0 where
@@ -58,12 +58,12 @@ pins_fit (o ∷ os) h =
     ((own.0, leb-true (length o.pin) 64 own.1), pins_fit os parts.1)
 
 -- an element with these outputs, none of which feeds back
-ports_fit : (e : Element) → e.id < 2 ^ 64 → are_distinct (map (λ (o : Port). folded o.pin) (ports e.kind)) ≡ true → e.fed ≡ [] → list_all is_pin (ports e.kind) ≡ true → PortsFit e
+ports_fit : (e : Element) → e.id < 2 ^ 64 → are_distinct (map (λ (o : Port). in_lower_case o.pin) (ports e.kind)) ≡ true → e.fed ≡ [] → list_all is_pin (ports e.kind) ≡ true → PortsFit e
 ports_fit e small distinct none named = record {
   small = small;
   pins = distinct;
   fed = subst (Each (Contains (ports e.kind))) (sym none) tt;
-  distinct = ap (λ fed. are_distinct (map (λ (o : Port). folded o.pin) fed)) none;
+  distinct = ap (λ fed. are_distinct (map (λ (o : Port). in_lower_case o.pin) fed)) none;
   names = pins_fit (ports e.kind) named;
 }
 

@@ -1,7 +1,7 @@
 -- The counts of turns in the meaning of a text never show: a loop is its test, one turn, and the loop again.
 use Rattle.std.proofs.Common.{◌≡◌, ◌≤◌, ℕ, zero, suc, ℤ, Bool, List, [], ◌∷◌, Option, Some, None, refl, sym, ap, ◌∙◌, arith, le_refl, if◌then◌else◌}
 use Rattle.plcx_types.specs.declared.ty.Ty.TheVariants as ty
-use Rattle.plcx_types.specs.Name.{folded}
+use Rattle.plcx_types.specs.Name.{in_lower_case}
 use Rattle.plcx_types.specs.TypeName.{same_ty}
 use Rattle.plcx_types.specs.Value.{Value}
 use Rattle.plcx_std.specs.declared.kind.StdKind.{StdKind}
@@ -79,7 +79,7 @@ arguments_lower : (args : List Argument) (c : Here) (i : List ℕ) (old : Run) (
     → ((h : Run) → h.left ≡ old.left → Lowers left old.left (go h)) → Lowers left old.left (store_arguments args c i old f g go)
 arguments_lower [] c i old f g go e h = h g e
 arguments_lower (a ∷ rest) c i old f g go e h =
-    argument_lower (formal_named c i a.formal) a c (folded a.formal ∷ folded i ∷ c.site.path) old f g (λ k. store_arguments rest c i old f k go) e (λ k same. arguments_lower rest c i old f k go same h)
+    argument_lower (formal_named c i a.formal) a c (in_lower_case a.formal ∷ in_lower_case i ∷ c.site.path) old f g (λ k. store_arguments rest c i old f k go) e (λ k same. arguments_lower rest c i old f k go same h)
 
 module _ (c : Here) (call : Invoked) (low : CallLowers call) where
   invoke_lower : (i : List ℕ) (args : List Argument) (g : Run) (f : Frame) → Lowers left g.left (invoke i args c call g f)
@@ -87,8 +87,8 @@ module _ (c : Here) (call : Invoked) (low : CallLowers call) where
       lowers_found left _ (type_of_instance (place_of c i)) _ (λ type.
       lowers_if left _ (all_bound args (parts_named c i)) _ _
       (arguments_lower args c i g f g _ refl (λ h e.
-      lowers_then left _ (call type (record { path = folded i ∷ c.site.path; bound = bind args c i }) h) _
-      (lowers_more left h.left g.left _ (omega arith) (low type (record { path = folded i ∷ c.site.path; bound = bind args c i }) h))
+      lowers_then left _ (call type (record { path = in_lower_case i ∷ c.site.path; bound = bind args c i }) h) _
+      (lowers_more left h.left g.left _ (omega arith) (low type (record { path = in_lower_case i ∷ c.site.path; bound = bind args c i }) h))
       (λ g' u le. lowers_end left _ g' f le)))
       (lowers_stuck left _))
 

@@ -3,7 +3,7 @@ use Rattle.std.proofs.Common.{◌≡◌, ◌≤◌, ℕ, zero, suc, ◌+◌, ℤ
 use Rattle.std.specs.declared.result.Result.{Result}
 use Rattle.std.specs.declared.result.Result.TheVariants.{Ok, Err}
 use Rattle.plcx_types.specs.declared.fault.Fault.{Fault}
-use Rattle.plcx_types.specs.Name.{folded}
+use Rattle.plcx_types.specs.Name.{in_lower_case}
 use Rattle.plcx_types.specs.Value.{Value}
 use Rattle.plcx_std.specs.declared.kind.StdKind.{StdKind}
 use Rattle.plcx_std.specs.Kind.{kind_named}
@@ -48,7 +48,7 @@ coil_left FallingCoil leaf p id v d = refl
 
 inputs_left : (inputs : List Input) (inner : Path) (values : Link → ℤ) (d : Diagram) → (store_inputs inputs inner values d).left ≡ d.left
 inputs_left [] inner values d = refl
-inputs_left (i ∷ is) inner values d = inputs_left is inner values (set_leaf d (folded i.name ∷ inner) (values i.link))
+inputs_left (i ∷ is) inner values d = inputs_left is inner values (set_leaf d (in_lower_case i.name ∷ inner) (values i.link))
 
 feed_left : (id : ℕ) (ps : List Port) (path : Path) (ws : Wires) (d : Diagram) → (feed id ps path ws d).left ≡ d.left
 feed_left id [] path ws d = refl
@@ -73,8 +73,8 @@ module _ (c : Setting) (low : CallLowers c.called) where
   call_lower : (instance type : List ℕ) (v : ℤ) (inputs : List Input) (in_outs : List InOut) (values : Link → ℤ) (d : Diagram) → Lowers left d.left (call_does instance type v inputs in_outs c values d)
   call_lower instance type v inputs in_outs values d =
       lowers_if left _ (is_true v) _ _
-      (lowers_more left _ d.left _ (let h = inputs_left inputs (folded instance ∷ c.site.path) values d in omega arith)
-      (low type (record { path = folded instance ∷ c.site.path; bound = bind in_outs (leaf_named c.variables c.site) }) (store_inputs inputs (folded instance ∷ c.site.path) values d)))
+      (lowers_more left _ d.left _ (let h = inputs_left inputs (in_lower_case instance ∷ c.site.path) values d in omega arith)
+      (low type (record { path = in_lower_case instance ∷ c.site.path; bound = bind in_outs (leaf_named c.variables c.site) }) (store_inputs inputs (in_lower_case instance ∷ c.site.path) values d)))
       (lowers_end left _ d tt (le_refl _))
 
   kind_lower : (k : Kind) (id : ℕ) (d : Diagram) (ws : Wires) → Lowers left d.left (kind_does k id c d ws)
@@ -90,7 +90,7 @@ module _ (c : Setting) (low : CallLowers c.called) where
   kind_lower (Function f t enable inputs negated) id d ws =
       lowers_result (function_result f t inputs (enable_value (link_value c.site.path d ws) enable) (link_value c.site.path d ws)) d _ (λ n. lowers_same d d _ refl)
   kind_lower (Call instance enable inputs in_outs outputs) id d ws =
-      lowers_found left _ (variable_named (folded instance) c.variables) _ (λ v.
+      lowers_found left _ (variable_named (in_lower_case instance) c.variables) _ (λ v.
       lowers_then left _ _ _ (call_lower instance v.ty (enable_value (link_value c.site.path d ws) enable) inputs in_outs (link_value c.site.path d ws) d) (λ d' u le. lowers_end left _ d' _ le))
 
   element_lower : (e : Element) (d : Diagram) (ws : Wires) → Lowers left d.left (element_does e c d ws)

@@ -8,7 +8,7 @@ use Rattle.std.proofs.lemmas.Bool.{and_parts, eq-eqb}
 use Rattle.plcx_types.specs.declared.fault.Fault.{Fault}
 use Rattle.plcx_types.specs.declared.ty.Ty.{Ty}
 use Rattle.plcx_types.specs.declared.ty.Ty.TheVariants as ty
-use Rattle.plcx_types.specs.TypeName.{same_ty, place_of_type}
+use Rattle.plcx_types.specs.TypeName.{same_ty, position_of_type}
 use Rattle.plcx_types.specs.Value.{Value}
 use Rattle.plcx_types.proofs.TypeTable.{same_is}
 use Rattle.plcx_funcs.specs.declared.func.Func.{Func}
@@ -43,7 +43,7 @@ abbrev pub types : List Value → List Ty
 types vs = map (λ (v : Value). v.ty) vs
 
 pub same_type : (t : Ty) → same_ty t t ≡ true
-same_type t = eq-eqb (place_of_type t) (place_of_type t) refl
+same_type t = eq-eqb (position_of_type t) (position_of_type t) refl
 
 -- a call on values that suit it
 pub call_is : (g : Func) (t : Ty) (vs : List Value) → group_of g (types vs) ≡ Some t → can_apply g t (types vs) ≡ true → call_function g vs ≡ answer (out_type g t) (applied g t vs)
@@ -185,7 +185,7 @@ module _ (c : Here) (s : Path → ℤ) (f : Frame) where
   joins op t join h gives (e ∷ es) (v ∷ vs) low k all = chain_joined op t join h gives e v.n es vs (k.0 ∙ ap (λ u. Given (value u v.n)) all.0) k.1 all.1
 
   tests : (op : Operator) (t : Ty) (join : ℤ → ℤ → ℤ) → takes (function_of op) t ≡ true → ((v w : Value) → answer (out_type (function_of op) t) (applied (function_of op) t (v ∷ w ∷ [])) ≡ answer t (after join t (Ok v) w))
-      → (es : List Expression) (vs : List Value) → 2 ≤ length vs → Known es vs → AllOf t vs → value_of (chain op es) c s f ≡ answer t (funcs.folded join t vs)
+      → (es : List Expression) (vs : List Value) → 2 ≤ length vs → Known es vs → AllOf t vs → value_of (chain op es) c s f ≡ answer t (funcs.in_lower_case join t vs)
   tests op t join h gives [] [] low k all = absurd (omega arith)
   tests op t join h gives [] (v ∷ vs) low k all = absurd k
   tests op t join h gives (e ∷ es) [] low k all = absurd k

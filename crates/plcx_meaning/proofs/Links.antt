@@ -2,7 +2,7 @@
 use Rattle.std.proofs.Common.{◌≡◌, ℕ, ℤ, pos, Bool, true, false, List, [], ◌∷◌, ◌≢◌, map, refl, sym, ap, ◌∙◌, subst}
 use Rattle.plcx_types.specs.declared.ty.Ty.{Ty}
 use Rattle.plcx_types.specs.declared.ty.Ty.TheVariants as ty
-use Rattle.plcx_types.specs.Name.{folded}
+use Rattle.plcx_types.specs.Name.{in_lower_case}
 use Rattle.plcx_funcs.specs.Applied.{value}
 use Rattle.plcx_meaning.specs.Base.{Path, put, Memory, AtOutput, Each, or_of, Ended, Site}
 use Rattle.plcx_meaning.specs.Base as base
@@ -28,7 +28,7 @@ pub assign_variable : (c : Here) (vs : List Variable) (call : Invoked) (g : Run)
 assign_variable c vs call g f x e t n asked known = rw (known) (asked.writes n g f)
 
 pub assign_memory : (c : Here) (call : Invoked) (g : Run) (f : Frame) (k : Memory) (e : Expression) (t : Ty) (n : ℤ) → place_of c (memory_name k) ≡ Kept t → value_of e c g.store f ≡ Given (value t n)
-    → run_statement (Assign (memory_name k) e) c call g f ≡ Ended (record g { store = put g.store (folded (memory_name k) ∷ c.site.path) n }) f
+    → run_statement (Assign (memory_name k) e) c call g f ≡ Ended (record g { store = put g.store (in_lower_case (memory_name k) ∷ c.site.path) n }) f
 assign_memory c call g f k e t n place known = rw (known, place, same_type t)
 
 -- under NOT, where the type is BOOL
@@ -39,7 +39,7 @@ negated_known c s f true e t n bool known =
     not_known c s f e n (known ∙ ap (λ u. Given (value u n)) is) ∙ ap (λ u. Given (value u (base.not_of n))) (sym is)
 
 -- a wire, and a memory
-pub wire_known : (c : Here) (s : Path → ℤ) (f : Frame) (id : ℕ) (pin : List ℕ) (t : Ty) → place_of c (wire_name id pin) ≡ Temporary t → value_of (wire id pin) c s f ≡ Given (value t (f (folded (wire_name id pin))))
+pub wire_known : (c : Here) (s : Path → ℤ) (f : Frame) (id : ℕ) (pin : List ℕ) (t : Ty) → place_of c (wire_name id pin) ≡ Temporary t → value_of (wire id pin) c s f ≡ Given (value t (f (in_lower_case (wire_name id pin))))
 wire_known c s f id pin t place = rw (place)
 
 pub memory_known : (c : Here) → IsDeclared c.site → (d : Diagram) (g : Run) (f : Frame) (k : Memory) (t : Ty) → Agree d g → place_of c (memory_name k) ≡ Kept t
@@ -56,7 +56,7 @@ module _ (c : Here) (site : IsDeclared c.site) (done : List (ℕ × Port)) (d : 
   source_known t Rail asked = ap (λ u. Given (value u (pos 1))) (sym asked)
   source_known t (Literal negated n) asked = negated_known c g.store f negated (number t n) t n asked refl
   source_known t (Wire id pin) asked =
-      wire_known c g.store f id pin t asked.0 ∙ ap (λ n. Given (value t n)) (sym (each_at (λ (o : ℕ × Port). ws o.0 o.1.pin ≡ f (folded (wire_name o.0 o.1.pin))) done (id, port pin t) same asked.1))
+      wire_known c g.store f id pin t asked.0 ∙ ap (λ n. Given (value t n)) (sym (each_at (λ (o : ℕ × Port). ws o.0 o.1.pin ≡ f (in_lower_case (wire_name o.0 o.1.pin))) done (id, port pin t) same asked.1))
   source_known t (Back id pin) asked = memory_known c site d g f (AtOutput id pin) t a asked
 
   or_all_known : (e : Expression) (n : ℤ) (rest : List Source) → value_of e c g.store f ≡ Given (value ty.Bool n) → Each (SourceAsked c done ty.Bool) rest

@@ -2,7 +2,7 @@
 use Rattle.std.proofs.Common.{◌≡◌, ℕ, zero, suc, false, List, Option, Some, None, refl, sym, ap, ◌∙◌, true≢false}
 use Rattle.std.specs.List.{Contains}
 use Rattle.std.specs.Option.{option_map}
-use Rattle.plcx_types.specs.Name.{folded}
+use Rattle.plcx_types.specs.Name.{in_lower_case}
 use Rattle.plcx_types.specs.TypeName.{type_named}
 use Rattle.plcx_std.specs.declared.kind.StdKind.{StdKind}
 use Rattle.plcx_std.specs.Kind.{kind_named}
@@ -39,7 +39,7 @@ pou_alike c vs does call networks elements asked d g f a =
 
 -- the same of blocks that are no standard ones
 abbrev pub UsersAlike : List Variable → Called → Invoked → Type 0
-UsersAlike vs does call = (i : List ℕ) (v : Variable) → variable_named (folded i) vs ≡ Some v → type_named v.ty ≡ None → kind_named v.ty ≡ None
+UsersAlike vs does call = (i : List ℕ) (v : Variable) → variable_named (in_lower_case i) vs ≡ Some v → type_named v.ty ≡ None → kind_named v.ty ≡ None
     → (site : Site) → IsDeclared site → (d : Diagram) (g : Run) → Agree d g → Alike Nothing (does v.ty site d) (call v.ty site g)
 
 -- with the standard ones
@@ -67,10 +67,10 @@ module _ (project : Project) (fits : ProjectFits project) (time : ℕ) where
 
   users_alike : (n : ℕ) (p : Pou) → Contains project p → Nests n project p → UsersAlike (variables_of p.lists) (blocks_do n time project) (blocks_run n time (unit_of project))
   users_alike zero p there nests i v named composite user site declared d g a =
-      let variable = each_at (VariableFits project) (variables_of p.lists) v (each_at (PouFits project) project p fits.pous there).variables (variable_there (folded i) (variables_of p.lists) v named) in
-      absurd (true≢false (sym variable.known ∙ unknown project v.ty composite user (nests (folded i) v named composite user)))
+      let variable = each_at (VariableFits project) (variables_of p.lists) v (each_at (PouFits project) project p fits.pous there).variables (variable_there (in_lower_case i) (variables_of p.lists) v named) in
+      absurd (true≢false (sym variable.known ∙ unknown project v.ty composite user (nests (in_lower_case i) v named composite user)))
   users_alike (suc n) p there nests i v named composite user site declared d g a =
-      let below = nests (folded i) v named composite user in
+      let below = nests (in_lower_case i) v named composite user in
       let q : Pou = below.0 in
       let within = block_there v.ty project q below.1 in
       let in_text : text.block_named v.ty (unit_of project) ≡ Some (pou_text q) = block_text v.ty project ∙ ap (option_map pou_text) below.1 in

@@ -4,7 +4,7 @@ use Rattle.std.specs.Prelude.{is_some}
 use Rattle.std.specs.List.{Contains}
 use Rattle.plcx_types.specs.declared.ty.Ty.{Ty}
 use Rattle.plcx_types.specs.declared.ty.Ty.TheVariants as ty
-use Rattle.plcx_types.specs.Name.{folded}
+use Rattle.plcx_types.specs.Name.{in_lower_case}
 use Rattle.plcx_meaning.specs.Base.{Memory, AtEdge, AtOutput, Each, are_distinct, top}
 use Rattle.plcx_meaning.specs.Tree.{Expression, Name, Member, Not, Argument, Statement, Assign, If, statements}
 use Rattle.plcx_meaning.specs.Tree as tree
@@ -32,10 +32,10 @@ has_edge_of FallingContact = true
 
 -- the names of a call's arguments
 formal_names : (taken : List Input) (bound : List InOut)
-    → map (λ (a : Argument). folded a.formal) (map input_text taken ++ map in_out_text bound) ≡ map (λ (i : Input). folded i.name) taken ++ map (λ (i : InOut). folded i.name) bound
+    → map (λ (a : Argument). in_lower_case a.formal) (map input_text taken ++ map in_out_text bound) ≡ map (λ (i : Input). in_lower_case i.name) taken ++ map (λ (i : InOut). in_lower_case i.name) bound
 formal_names [] [] = refl
-formal_names [] (i ∷ is) = ap (λ ns. folded i.name ∷ ns) (formal_names [] is)
-formal_names (i ∷ is) bound = ap (λ ns. folded i.name ∷ ns) (formal_names is bound)
+formal_names [] (i ∷ is) = ap (λ ns. in_lower_case i.name ∷ ns) (formal_names [] is)
+formal_names (i ∷ is) bound = ap (λ ns. in_lower_case i.name ∷ ns) (formal_names is bound)
 
 module _ (project : Project) (p : Pou) (fits : ProjectFits project) (there : Contains project p) where
   abbrev ReadyOf : Statement → Type 0

@@ -3,7 +3,7 @@ use Rattle.std.proofs.Common.{◌≡◌, ◌≢◌, ℕ, ℤ, pos, Bool, true, f
 use Rattle.std.specs.List.{Contains}
 use Rattle.std.proofs.lemmas.Bool.{both_ways}
 use Rattle.plcx_types.specs.declared.ty.Ty.{Ty}
-use Rattle.plcx_types.specs.Name.{folded}
+use Rattle.plcx_types.specs.Name.{in_lower_case}
 use Rattle.plcx_types.specs.Reserved.{is_own}
 use Rattle.plcx_types.specs.TypeName.{type_named}
 use Rattle.plcx_types.specs.Value.{Value}
@@ -98,9 +98,9 @@ module _ (project : Project) (p : Pou) (fits : ProjectFits project) (there : Con
   own_fits = each_at (PouFits project) project p fits.pous there
 
   -- a variable of the diagram as a target
-  named_variable : (x : List ℕ) (t : Ty) (test : Variable → Bool) (v : Variable) → variable_named (folded x) (variables_of p.lists) ≡ Some v → place_type (place scope.world (variable_in scope x)) ≡ Some t → test v ≡ true → IsVariable scope x t test
+  named_variable : (x : List ℕ) (t : Ty) (test : Variable → Bool) (v : Variable) → variable_named (in_lower_case x) (variables_of p.lists) ≡ Some v → place_type (place scope.world (variable_in scope x)) ≡ Some t → test v ≡ true → IsVariable scope x t test
   named_variable x t test v found typed passes =
-      let is : variable_in scope x ≡ Some v = ap (variable_named (folded x)) (text_variables p) ∙ named_first (folded x) (variables_of p.lists) (own_variables p) v found in
+      let is : variable_in scope x ≡ Some v = ap (variable_named (in_lower_case x)) (text_variables p) ∙ named_first (in_lower_case x) (variables_of p.lists) (own_variables p) v found in
       record { variable = v; found = is; typed = elementary_named scope.world v t (ap (λ o. place_type (place scope.world o)) (sym is) ∙ typed); passes = passes }
 
   pub target_ready : (x : List ℕ) (t u : Ty) → promise.IsVariable (variables_of p.lists) x u → CanBeWritten (variables_of p.lists) x → place_type (place scope.world (variable_in scope x)) ≡ Some t → IsVariable scope x t can_store
@@ -114,21 +114,21 @@ module _ (project : Project) (p : Pou) (fits : ProjectFits project) (there : Con
       named_variable x t can_bind is.variable is.found typed (bind_by is.variable.class (is_constant is.variable.mark) w.0 is.class (no_constant is.variable.mark w.1))
 
   -- each of the compiler's own variables can be stored to
-  own_stored : Each (λ (v : Variable). is_own (folded v.name) ≡ true → can_store v ≡ true) (variables_of (pou_text p).blocks)
+  own_stored : Each (λ (v : Variable). is_own (in_lower_case v.name) ≡ true → can_store v ≡ true) (variables_of (pou_text p).blocks)
   own_stored =
-      subst (Each (λ (v : Variable). is_own (folded v.name) ≡ true → can_store v ≡ true)) (sym (text_variables p))
+      subst (Each (λ (v : Variable). is_own (in_lower_case v.name) ≡ true → can_store v ≡ true)) (sym (text_variables p))
       (each_append _ (variables_of p.lists) (own_variables p)
-      (each_weaker IsDeclaredVariable _ (variables_of p.lists) (λ v declared own. absurd (both_ways (is_own (folded v.name)) declared own)) (variables_declared project p own_fits))
-      (own_each (λ (v : Variable). is_own (folded v.name) ≡ true → can_store v ≡ true) (λ k t own. refl) (λ id pin t own. refl) (λ own. refl) p))
+      (each_weaker IsDeclaredVariable _ (variables_of p.lists) (λ v declared own. absurd (both_ways (is_own (in_lower_case v.name)) declared own)) (variables_declared project p own_fits))
+      (own_each (λ (v : Variable). is_own (in_lower_case v.name) ≡ true → can_store v ≡ true) (λ k t own. refl) (λ id pin t own. refl) (λ own. refl) p))
 
-  pub own_ready : (x : List ℕ) (t : Ty) → is_own (folded x) ≡ true → place_type (place scope.world (variable_in scope x)) ≡ Some t → IsVariable scope x t can_store
+  pub own_ready : (x : List ℕ) (t : Ty) → is_own (in_lower_case x) ≡ true → place_type (place scope.world (variable_in scope x)) ≡ Some t → IsVariable scope x t can_store
   own_ready x t own typed = by_variable (variable_in scope x) refl typed
     where
       by_variable : (o : Option Variable) → variable_in scope x ≡ o → place_type (place scope.world o) ≡ Some t → IsVariable scope x t can_store
       by_variable None e h = absurd (cc)
       by_variable (Some v) e h =
-          let stored = found_has (λ (w : Variable). is_own (folded w.name) ≡ true → can_store w ≡ true) (folded x) (variables_of (pou_text p).blocks) v own_stored e in
-          record { variable = v; found = e; typed = elementary_named scope.world v t h; passes = stored (ap is_own (found_name (folded x) (variables_of (pou_text p).blocks) v e) ∙ own) }
+          let stored = found_has (λ (w : Variable). is_own (in_lower_case w.name) ≡ true → can_store w ≡ true) (in_lower_case x) (variables_of (pou_text p).blocks) v own_stored e in
+          record { variable = v; found = e; typed = elementary_named scope.world v t h; passes = stored (ap is_own (found_name (in_lower_case x) (variables_of (pou_text p).blocks) v e) ∙ own) }
 
   -- what an inVariable or a contact reads
   pub operand_has : (vs : List Variable) (operand : Operand) (t : Ty) → OperandAsked (here project p top) vs operand t → HasType scope (operand_text operand) t

@@ -9,7 +9,7 @@ use Rattle.std.proofs.lemmas.List.{length-append}
 use Rattle.std.proofs.lemmas.List.Sums.{sum_by-append, sum_by-cons}
 use Rattle.plcx_types.specs.declared.ty.Ty.{Ty}
 use Rattle.plcx_types.specs.declared.ty.Ty.TheVariants as ty
-use Rattle.plcx_types.specs.Name.{folded}
+use Rattle.plcx_types.specs.Name.{in_lower_case}
 use Rattle.plcx_types.specs.TypeName.{type_name, type_named}
 use Rattle.plcx_std.specs.declared.kind.StdKind.{StdKind}
 use Rattle.plcx_std.specs.declared.kind.StdKind.TheVariants as kind
@@ -96,10 +96,10 @@ pins_plain kind.RTrig = refl
 pins_plain kind.FTrig = refl
 
 -- a block is found under its name without case
-block_folded : (name : List ℕ) (project : Project) → diagram.block_named (folded name) project ≡ diagram.block_named name project
+block_folded : (name : List ℕ) (project : Project) → diagram.block_named (in_lower_case name) project ≡ diagram.block_named name project
 block_folded name [] = refl
 block_folded name (p ∷ ps) =
-    ap₂ (λ key (o : Option Pou). if not (is_program p.kind) && bytes_eq (folded p.name) key then Some p else o) (folded_twice name) (block_folded name ps)
+    ap₂ (λ key (o : Option Pou). if not (is_program p.kind) && bytes_eq (in_lower_case p.name) key then Some p else o) (folded_twice name) (block_folded name ps)
 
 some_is : {A : Type 0} (o : Option A) → is_some o ≡ true → (x : A) × (o ≡ Some x)
 some_is None h = absurd (cc)
@@ -118,10 +118,10 @@ module _ (project : Project) (own : List Variable) where
   plain_size inner leaf path v t h = by (is_kept v.class)
     where
       by : (b : Bool) → (if b then (elim (meaning text_world v.ty) [ Elementary u ↦ 1 | Composed vs ↦ suc (inner vs) ]) else 0)
-          ≡ length (if b then (elim (meaning c.world v.ty) [ Elementary u ↦ leaf_of c (folded v.name ∷ path) u v.mark ∷ [] | Composed vs ↦ leaf (folded v.name ∷ path) vs ]) else [])
+          ≡ length (if b then (elim (meaning c.world v.ty) [ Elementary u ↦ leaf_of c (in_lower_case v.name ∷ path) u v.mark ∷ [] | Composed vs ↦ leaf (in_lower_case v.name ∷ path) vs ]) else [])
       by true =
           ap (λ (m : Meaning). elim m [ Elementary u ↦ 1 | Composed vs ↦ suc (inner vs) ]) (elementary_meaning text_world v.ty t h)
-          ∙ sym (ap (λ (m : Meaning). length {A = Leaf} (elim m [ Elementary u ↦ leaf_of c (folded v.name ∷ path) u v.mark ∷ [] | Composed vs ↦ leaf (folded v.name ∷ path) vs ])) (elementary_meaning c.world v.ty t h))
+          ∙ sym (ap (λ (m : Meaning). length {A = Leaf} (elim m [ Elementary u ↦ leaf_of c (in_lower_case v.name ∷ path) u v.mark ∷ [] | Composed vs ↦ leaf (in_lower_case v.name ∷ path) vs ])) (elementary_meaning c.world v.ty t h))
       by false = refl
 
   plain_sizes : (n : ℕ) (path : Path) (vs : List Variable) → list_all is_plain vs ≡ true → size n text_world vs ≡ length (leaves n c path vs)
@@ -146,13 +146,13 @@ module _ (project : Project) (own : List Variable) where
       of_block (Some q) h = let one = h q in omega arith
       of_block None h = let none = plain_sizes n path [] refl in omega arith
 
-      by_kind : (o : Option StdKind) → suc (size n text_world (elim o [ Some k ↦ variables_of (pin_blocks k) | None ↦ variables_of (text_world (folded name)) ]))
-          ≤ length (leaves n c path (elim o [ Some k ↦ variables_of (pin_blocks k) | None ↦ variables_of (c.world (folded name)) ])) + (if is_some o then 1 else (elim (diagram.block_named name project) [ Some q ↦ suc (parts n project q) | None ↦ 1 ]))
+      by_kind : (o : Option StdKind) → suc (size n text_world (elim o [ Some k ↦ variables_of (pin_blocks k) | None ↦ variables_of (text_world (in_lower_case name)) ]))
+          ≤ length (leaves n c path (elim o [ Some k ↦ variables_of (pin_blocks k) | None ↦ variables_of (c.world (in_lower_case name)) ])) + (if is_some o then 1 else (elim (diagram.block_named name project) [ Some q ↦ suc (parts n project q) | None ↦ 1 ]))
       by_kind (Some k) = let same = plain_sizes n path (variables_of (pin_blocks k)) (pins_plain k) in omega arith
       by_kind None =
-          subst (λ (o : Option Pou). suc (size n text_world (variables_of (text_world (folded name)))) ≤ length (leaves n c path (variables_of (c.world (folded name)))) + (elim o [ Some q ↦ suc (parts n project q) | None ↦ 1 ])) (block_folded name project)
-          (subst (λ (bs : List Block). suc (size n text_world (variables_of bs)) ≤ length (leaves n c path (variables_of (c.world (folded name)))) + (elim (diagram.block_named (folded name) project) [ Some q ↦ suc (parts n project q) | None ↦ 1 ]))
-          (sym (ap (λ (o : Option PouText). elim o [ Some p ↦ p.blocks | None ↦ [] ]) (block_text (folded name) project))) (of_block (diagram.block_named (folded name) project) each))
+          subst (λ (o : Option Pou). suc (size n text_world (variables_of (text_world (in_lower_case name)))) ≤ length (leaves n c path (variables_of (c.world (in_lower_case name)))) + (elim o [ Some q ↦ suc (parts n project q) | None ↦ 1 ])) (block_folded name project)
+          (subst (λ (bs : List Block). suc (size n text_world (variables_of bs)) ≤ length (leaves n c path (variables_of (c.world (in_lower_case name)))) + (elim (diagram.block_named (in_lower_case name) project) [ Some q ↦ suc (parts n project q) | None ↦ 1 ]))
+          (sym (ap (λ (o : Option PouText). elim o [ Some p ↦ p.blocks | None ↦ [] ]) (block_text (in_lower_case name) project))) (of_block (diagram.block_named (in_lower_case name) project) each))
 
   -- each variable, and all of them
   variable_bound : (n : ℕ) (path : Path) (v : Variable) → ((at : Path) (q : Pou) → size n text_world (variables_of (pou_text q).blocks) ≤ length (leaves n c at (variables_of q.lists)) + parts n project q)
@@ -162,12 +162,12 @@ module _ (project : Project) (own : List Variable) where
       composite : (m k : Meaning) (most : ℕ) → m ≡ Composed (composed text_world v.ty) → k ≡ Composed (composed c.world v.ty)
           → most ≡ (if is_some (kind_named v.ty) then 1 else (elim (diagram.block_named v.ty project) [ Some q ↦ suc (parts n project q) | None ↦ 1 ]))
           → (elim m [ Elementary u ↦ 1 | Composed vs ↦ suc (size n text_world vs) ])
-          ≤ length {A = Leaf} (elim k [ Elementary u ↦ leaf_of c (folded v.name ∷ path) u v.mark ∷ [] | Composed vs ↦ leaves n c (folded v.name ∷ path) vs ]) + most
-      composite m k most em ek e = rw (em, ek, e) (composed_size n (folded v.name ∷ path) v.ty (each (folded v.name ∷ path)))
+          ≤ length {A = Leaf} (elim k [ Elementary u ↦ leaf_of c (in_lower_case v.name ∷ path) u v.mark ∷ [] | Composed vs ↦ leaves n c (in_lower_case v.name ∷ path) vs ]) + most
+      composite m k most em ek e = rw (em, ek, e) (composed_size n (in_lower_case v.name ∷ path) v.ty (each (in_lower_case v.name ∷ path)))
 
       by_class : (b : Bool) → type_named v.ty ≡ None
           → (if b then (elim (meaning text_world v.ty) [ Elementary u ↦ 1 | Composed vs ↦ suc (size n text_world vs) ]) else 0)
-          ≤ length (if b then (elim (meaning c.world v.ty) [ Elementary u ↦ leaf_of c (folded v.name ∷ path) u v.mark ∷ [] | Composed vs ↦ leaves n c (folded v.name ∷ path) vs ]) else [])
+          ≤ length (if b then (elim (meaning c.world v.ty) [ Elementary u ↦ leaf_of c (in_lower_case v.name ∷ path) u v.mark ∷ [] | Composed vs ↦ leaves n c (in_lower_case v.name ∷ path) vs ]) else [])
           + variable_parts (parts n project) project v
       by_class false e = omega arith
       by_class true e = composite (meaning text_world v.ty) (meaning c.world v.ty) (variable_parts (parts n project) project v) (composed_meaning text_world v.ty e) (composed_meaning c.world v.ty e)

@@ -7,7 +7,7 @@ use Rattle.std.specs.Option.{option_map}
 use Rattle.std.proofs.lemmas.Bool.{or_parts}
 use Rattle.plcx_types.specs.declared.ty.Ty.{Ty}
 use Rattle.plcx_types.specs.declared.ty.Ty.TheVariants as ty
-use Rattle.plcx_types.specs.Name.{folded}
+use Rattle.plcx_types.specs.Name.{in_lower_case}
 use Rattle.plcx_types.specs.Reserved.{is_listed, is_own, is_reserved}
 use Rattle.plcx_types.specs.TypeName.{type_name, type_named}
 use Rattle.plcx_std.specs.declared.kind.StdKind.{StdKind}
@@ -47,15 +47,15 @@ wire_free : (id : ℕ) (pin : List ℕ) → is_listed (wire_name id pin) ≡ fal
 wire_free id pin = refl
 
 -- each variable is found under its own name
-named_each : (vs : List Variable) → are_distinct (map (λ (v : Variable). folded v.name) vs) ≡ true → Each (λ (v : Variable). variable_named (folded v.name) vs ≡ Some v) vs
+named_each : (vs : List Variable) → are_distinct (map (λ (v : Variable). in_lower_case v.name) vs) ≡ true → Each (λ (v : Variable). variable_named (in_lower_case v.name) vs ≡ Some v) vs
 named_each [] h = tt
 named_each (v ∷ vs) h =
-    let parts = distinct_parts (folded v.name) (map (λ (w : Variable). folded w.name) vs) h in
-    (rw (bytes_self (folded v.name)) refl, each_both (λ (w : Variable). bytes_eq (folded v.name) (folded w.name) ≡ false) (λ (w : Variable). variable_named (folded w.name) vs ≡ Some w) _ vs (others vs parts.0) (named_each vs parts.1) (λ w apart found. rw (apart) found))
+    let parts = distinct_parts (in_lower_case v.name) (map (λ (w : Variable). in_lower_case w.name) vs) h in
+    (rw (bytes_self (in_lower_case v.name)) refl, each_both (λ (w : Variable). bytes_eq (in_lower_case v.name) (in_lower_case w.name) ≡ false) (λ (w : Variable). variable_named (in_lower_case w.name) vs ≡ Some w) _ vs (others vs parts.0) (named_each vs parts.1) (λ w apart found. rw (apart) found))
   where
-    others : (ws : List Variable) → IsNew (folded v.name) (map (λ (w : Variable). folded w.name) ws) → Each (λ (w : Variable). bytes_eq (folded v.name) (folded w.name) ≡ false) ws
+    others : (ws : List Variable) → IsNew (in_lower_case v.name) (map (λ (w : Variable). in_lower_case w.name) ws) → Each (λ (w : Variable). bytes_eq (in_lower_case v.name) (in_lower_case w.name) ≡ false) ws
     others [] e = tt
-    others (w ∷ ws) e = let p = or_parts (bytes_eq (folded v.name) (folded w.name)) (list_any (bytes_eq (folded v.name)) (map (λ (u : Variable). folded u.name) ws)) e in (p.0, others ws p.1)
+    others (w ∷ ws) e = let p = or_parts (bytes_eq (in_lower_case v.name) (in_lower_case w.name)) (list_any (bytes_eq (in_lower_case v.name)) (map (λ (u : Variable). in_lower_case u.name) ws)) e in (p.0, others ws p.1)
 
 module _ (project : Project) where
   abbrev unit : List PouText
@@ -112,17 +112,17 @@ module _ (project : Project) where
   nests_ready all zero p fits nests =
       subst (Each (λ (v : Variable). user_block unit v ≡ None)) (sym (text_variables p))
       (each_append _ (variables_of p.lists) (own_variables p)
-      (each_weaker (λ (v : Variable). variable_named (folded v.name) (variables_of p.lists) ≡ Some v) _ (variables_of p.lists) (λ v found.
-      elim (user_is v) [ inl e ↦ e | inr h ↦ h.2 ∙ ap (option_map pou_text) (nests (folded v.name) v found h.0 h.1) ]) (named_each (variables_of p.lists) fits.distinct))
+      (each_weaker (λ (v : Variable). variable_named (in_lower_case v.name) (variables_of p.lists) ≡ Some v) _ (variables_of p.lists) (λ v found.
+      elim (user_is v) [ inl e ↦ e | inr h ↦ h.2 ∙ ap (option_map pou_text) (nests (in_lower_case v.name) v found h.0 h.1) ]) (named_each (variables_of p.lists) fits.distinct))
       (own_users p))
   nests_ready all (suc n) p fits nests =
       subst (Each (λ (v : Variable). (q : PouText) → user_block unit v ≡ Some q → Nests n unit q)) (sym (text_variables p))
       (each_append _ (variables_of p.lists) (own_variables p)
-      (each_weaker (λ (v : Variable). variable_named (folded v.name) (variables_of p.lists) ≡ Some v) _ (variables_of p.lists) (λ v found.
+      (each_weaker (λ (v : Variable). variable_named (in_lower_case v.name) (variables_of p.lists) ≡ Some v) _ (variables_of p.lists) (λ v found.
       elim (user_is v) [
         | inl e ↦ (λ q h. let k : None ≡ Some q = sym e ∙ h in absurd (cc))
         | inr h ↦ (λ q user.
-            let b = nests (folded v.name) v found h.0 h.1 in
+            let b = nests (in_lower_case v.name) v found h.0 h.1 in
             let same : Some (pou_text b.0) ≡ Some q = sym (h.2 ∙ ap (option_map pou_text) b.1) ∙ user in
             let is : pou_text b.0 ≡ q = cc in
             subst (Nests n unit) is (nests_ready all n b.0 (block_fits project v.ty project b.0 all b.1) b.2))
@@ -139,9 +139,9 @@ module _ (project : Project) where
     small = let most = size_bound project (variables_of p.lists) 18 [] p in let leaves = one.leaves in let parts = one.parts in omega arith;
   }
 
-  unit_names : (ps : Project) → map (λ (p : PouText). folded p.name) (unit_of ps) ≡ map (λ (p : Pou). folded p.name) ps
+  unit_names : (ps : Project) → map (λ (p : PouText). in_lower_case p.name) (unit_of ps) ≡ map (λ (p : Pou). in_lower_case p.name) ps
   unit_names [] = refl
-  unit_names (p ∷ ps) = ap (λ xs. folded p.name ∷ xs) (unit_names ps)
+  unit_names (p ∷ ps) = ap (λ xs. in_lower_case p.name ∷ xs) (unit_names ps)
 
   pub unit_ready : ProjectFits project → IsReady unit
   unit_ready fits = record {

@@ -2,7 +2,7 @@
 use Rattle.std.proofs.Common.{◌≡◌, ℕ, ℤ, pos, ◌<◌, ◌^◌, Bool, true, false, List, [], ◌∷◌, refl, ap, ◌∙◌, subst, if◌then◌else◌}
 use Rattle.plcx_types.specs.declared.ty.Ty.{Ty}
 use Rattle.plcx_types.specs.declared.ty.Ty.TheVariants as ty
-use Rattle.plcx_types.specs.Name.{folded}
+use Rattle.plcx_types.specs.Name.{in_lower_case}
 use Rattle.plcx_funcs.specs.Applied.{value}
 use Rattle.plcx_meaning.specs.Base.{put, is_true, and_of, not_of, AtEdge, Ended, then_do}
 use Rattle.plcx_meaning.specs.Tree.{Expression, Not, Assign, statements}
@@ -33,8 +33,8 @@ coils_edge RisingCoil = true
 coils_edge FallingCoil = true
 
 -- a temporary that was just assigned
-pub held : (f : Frame) (x : List ℕ) (n : ℤ) → hold f x n (folded x) ≡ n
-held f x n = ap (λ b. if b then n else f (folded x)) (bytes_self (folded x))
+pub held : (f : Frame) (x : List ℕ) (n : ℤ) → hold f x n (in_lower_case x) ≡ n
+held f x n = ap (λ b. if b then n else f (in_lower_case x)) (bytes_self (in_lower_case x))
 
 module _ (c : Here) (vs : List Variable) (call : Invoked) (site : IsDeclared c.site) where
   -- a wire gets a value that is known

@@ -5,7 +5,7 @@ use Rattle.std.specs.Str.{bytes_eq}
 use Rattle.std.proofs.lemmas.Bool.{and_from, and_parts, or_right}
 use Rattle.plcx_types.specs.declared.ty.Ty.{Ty}
 use Rattle.plcx_types.specs.declared.ty.Ty.TheVariants as ty
-use Rattle.plcx_types.specs.Name.{folded}
+use Rattle.plcx_types.specs.Name.{in_lower_case}
 use Rattle.plcx_types.specs.TypeName.{type_named}
 use Rattle.plcx_meaning.specs.Base.{Each, Site, AtOutput}
 use Rattle.plcx_meaning.specs.Tree.{Class, Local, Temp, Argument}
@@ -35,9 +35,9 @@ any_map test f (x ∷ xs) = ap (λ b. test (f x) || b) (any_map test f xs)
 
 -- each in-out of a block has an argument in the text
 module _ (taken : List Input) (bound : List InOut) where
-  one_bound : (k : Class) (name : List ℕ) → elim k [ tree.InOut ↦ list_any (λ (i : InOut). bytes_eq (folded i.name) (folded name)) bound | _ ↦ true ] ≡ true
-      → elim k [ tree.InOut ↦ list_any (λ (a : Argument). bytes_eq (folded a.formal) (folded name)) (map input_text taken ++ map in_out_text bound) | _ ↦ true ] ≡ true
-  one_bound tree.InOut name h = any_right _ (map input_text taken) (map in_out_text bound) (any_map (λ (a : Argument). bytes_eq (folded a.formal) (folded name)) in_out_text bound ∙ h)
+  one_bound : (k : Class) (name : List ℕ) → elim k [ tree.InOut ↦ list_any (λ (i : InOut). bytes_eq (in_lower_case i.name) (in_lower_case name)) bound | _ ↦ true ] ≡ true
+      → elim k [ tree.InOut ↦ list_any (λ (a : Argument). bytes_eq (in_lower_case a.formal) (in_lower_case name)) (map input_text taken ++ map in_out_text bound) | _ ↦ true ] ≡ true
+  one_bound tree.InOut name h = any_right _ (map input_text taken) (map in_out_text bound) (any_map (λ (a : Argument). bytes_eq (in_lower_case a.formal) (in_lower_case name)) in_out_text bound ∙ h)
   one_bound tree.Local name h = refl
   one_bound tree.Input name h = refl
   one_bound tree.Output name h = refl
@@ -65,9 +65,9 @@ module _ (project : Project) (p : Pou) (fits : ProjectFits project) (there : Con
       let world = text.world_of (unit_of project) in
       record {
         reads = λ s f.
-            ap (λ o. read_output world o (folded x ∷ folded i ∷ site.path) s) (member_found project p fits there site ok i x within v h.1 h.2.found)
-            ∙ ap₂ (λ m k. read_member m k (folded x ∷ folded i ∷ site.path) s) (elementary_meaning world v.ty t h.2.typed) h.2.class;
-        declared = leaf_declared x (folded i ∷ site.path) (member_own project p fits there site ok i x within v h.1 h.2.found) (leaf_declared i site.path (own_name project p fits there site ok i h.1.variable h.1.found) ok.path);
+            ap (λ o. read_output world o (in_lower_case x ∷ in_lower_case i ∷ site.path) s) (member_found project p fits there site ok i x within v h.1 h.2.found)
+            ∙ ap₂ (λ m k. read_member m k (in_lower_case x ∷ in_lower_case i ∷ site.path) s) (elementary_meaning world v.ty t h.2.typed) h.2.class;
+        declared = leaf_declared x (in_lower_case i ∷ site.path) (member_own project p fits there site ok i x within v h.1 h.2.found) (leaf_declared i site.path (own_name project p fits there site ok i h.1.variable h.1.found) ok.path);
       }
 
   source_asked : (done : List (ℕ × Port)) → FixedAsked done → (t : Ty) (s : Source) → SourceFits (record { project = project; pou = p; done = done }) t s → SourceAsked (here project p site) done t s
@@ -99,7 +99,7 @@ module _ (project : Project) (p : Pou) (fits : ProjectFits project) (there : Con
   enable_asked : (done : List (ℕ × Port)) → FixedAsked done → (enable : Enable) → EnableFits (record { project = project; pou = p; done = done }) enable → EnableAsked (here project p site) done enable
   enable_asked done all enable h link is = let one = h link is in (link_asked done all link one.0, one.1)
 
-  formal_found : (i x : List ℕ) (within : List Variable) (v : Variable) (t : Ty) → IsInstance (evaluate.world_of project) (variables_of p.lists) i within → variable_named (folded x) within ≡ Some v → type_named v.ty ≡ Some t
+  formal_found : (i x : List ℕ) (within : List Variable) (v : Variable) (t : Ty) → IsInstance (evaluate.world_of project) (variables_of p.lists) i within → variable_named (in_lower_case x) within ≡ Some v → type_named v.ty ≡ Some t
       → formal_named (here project p site) i x ≡ formal_by (Elementary t) v.class
   formal_found i x within v t is found typed =
       let world = text.world_of (unit_of project) in

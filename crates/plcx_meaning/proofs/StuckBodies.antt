@@ -3,7 +3,7 @@ use Rattle.std.proofs.Common.{◌≡◌, ◌≢◌, ℕ, zero, suc, ℤ, Bool, t
 use Rattle.std.specs.Str.{bytes_eq}
 use Rattle.plcx_types.specs.declared.ty.Ty.{Ty}
 use Rattle.plcx_types.specs.declared.ty.Ty.TheVariants as ty
-use Rattle.plcx_types.specs.Name.{folded}
+use Rattle.plcx_types.specs.Name.{in_lower_case}
 use Rattle.plcx_types.specs.TypeName.{type_named}
 use Rattle.plcx_types.proofs.TypeTable.{same_refl}
 use Rattle.plcx_std.specs.declared.kind.StdKind.{StdKind}
@@ -99,7 +99,7 @@ module _ (c : Scope) (site : Site) where
 -- what is found in a list has what each of it has
 pub found_has : (P : Variable → Type 0) (key : List ℕ) (vs : List Variable) (v : Variable) → Each P vs → variable_named key vs ≡ Some v → P v
 found_has P key [] v all h = absurd (cc)
-found_has P key (w ∷ vs) v all h = by_test (bytes_eq (folded w.name) key) (found_has P key vs v all.1) h
+found_has P key (w ∷ vs) v all h = by_test (bytes_eq (in_lower_case w.name) key) (found_has P key vs v all.1) h
   where
     by_test : (b : Bool) → (variable_named key vs ≡ Some v → P v) → (if b then Some w else variable_named key vs) ≡ Some v → P v
     by_test true later e = let same : w ≡ v = cc in subst P same all.0
@@ -107,7 +107,7 @@ found_has P key (w ∷ vs) v all h = by_test (bytes_eq (folded w.name) key) (fou
 
 block_has : (P : PouText → Type 0) (name : List ℕ) (unit : List PouText) (q : PouText) → Each P unit → block_named name unit ≡ Some q → P q
 block_has P name [] q all h = absurd (cc)
-block_has P name (p ∷ ps) q all h = by_test (not (is_program p.kind) && bytes_eq (folded p.name) (folded name)) (block_has P name ps q all.1) h
+block_has P name (p ∷ ps) q all h = by_test (not (is_program p.kind) && bytes_eq (in_lower_case p.name) (in_lower_case name)) (block_has P name ps q all.1) h
   where
     by_test : (b : Bool) → (block_named name ps ≡ Some q → P q) → (if b then Some p else block_named name ps) ≡ Some q → P q
     by_test true later e = let same : p ≡ q = cc in subst P same all.0
@@ -115,7 +115,7 @@ block_has P name (p ∷ ps) q all h = by_test (not (is_program p.kind) && bytes_
 
 program_has : (P : PouText → Type 0) (name : List ℕ) (unit : List PouText) (q : PouText) → Each P unit → program_named name unit ≡ Some q → P q
 program_has P name [] q all h = absurd (cc)
-program_has P name (p ∷ ps) q all h = by_test (is_program p.kind && bytes_eq (folded p.name) (folded name)) (program_has P name ps q all.1) h
+program_has P name (p ∷ ps) q all h = by_test (is_program p.kind && bytes_eq (in_lower_case p.name) (in_lower_case name)) (program_has P name ps q all.1) h
   where
     by_test : (b : Bool) → (program_named name ps ≡ Some q → P q) → (if b then Some p else program_named name ps) ≡ Some q → P q
     by_test true later e = let same : p ≡ q = cc in subst P same all.0
@@ -168,7 +168,7 @@ module _ (unit : List PouText) (ready : IsReady unit) (time : ℕ) where
       → (i type : List ℕ) → place (world_of unit) (variable_in (scope_of unit p) i) ≡ Instance type → (at : Site) (g : Run) → Goes (with_standard time (blocks_run n time unit) type at g)
   calls_at n p r users i type h at g =
       let it = instance_of (world_of unit) (variable_in (scope_of unit p) i) type h in
-      let known = found_has (VariableIsReady unit p.kind) (folded i) (variables_of p.blocks) it.variable r.variables it.found in
+      let known = found_has (VariableIsReady unit p.kind) (in_lower_case i) (variables_of p.blocks) it.variable r.variables it.found in
       subst (λ name. Goes (with_standard time (blocks_run n time unit) name at g)) it.same (by_kind it.variable it.found it.composite known.known (kind_named it.variable.ty) refl)
     where
       by_kind : (v : Variable) → variable_in (scope_of unit p) i ≡ Some v → type_named v.ty ≡ None → is_known unit v.ty ≡ true → (o : Option StdKind) → kind_named v.ty ≡ o → Goes (with_standard time (blocks_run n time unit) v.ty at g)
@@ -180,9 +180,9 @@ module _ (unit : List PouText) (ready : IsReady unit) (time : ℕ) where
   calls_go : (n : ℕ) (p : PouText) → PouIsReady unit p → Nests n unit p → (i type : List ℕ) → place (world_of unit) (variable_in (scope_of unit p) i) ≡ Instance type
       → (at : Site) (g : Run) → Goes (with_standard time (blocks_run n time unit) type at g)
   calls_go zero p r nests = calls_at zero p r (λ i v found q named user at g.
-      let none : user_block unit v ≡ None = found_has (λ (w : Variable). user_block unit w ≡ None) (folded i) (variables_of p.blocks) v nests found in absurd (cc))
+      let none : user_block unit v ≡ None = found_has (λ (w : Variable). user_block unit w ≡ None) (in_lower_case i) (variables_of p.blocks) v nests found in absurd (cc))
   calls_go (suc m) p r nests = calls_at (suc m) p r (λ i v found q named user at g.
-      let rest : Nests m unit q = found_has (λ (w : Variable). (b : PouText) → user_block unit w ≡ Some b → Nests m unit b) (folded i) (variables_of p.blocks) v nests found q user in
+      let rest : Nests m unit q = found_has (λ (w : Variable). (b : PouText) → user_block unit w ≡ Some b → Nests m unit b) (in_lower_case i) (variables_of p.blocks) v nests found q user in
       let its : PouIsReady unit q = block_has (PouIsReady unit) v.ty unit q ready.pous named in
       rw (named) (pou_goes q its (with_standard time (blocks_run m time unit)) (calls_go m q its rest) at g))
 

@@ -4,7 +4,7 @@ use Rattle.std.specs.List.{list_all, list_any}
 use Rattle.std.specs.Str.{bytes_eq}
 use Rattle.plcx_types.specs.declared.fault.Fault.{Fault}
 use Rattle.plcx_types.specs.declared.ty.Ty.TheVariants as ty
-use Rattle.plcx_types.specs.Name.{folded}
+use Rattle.plcx_types.specs.Name.{in_lower_case}
 use Rattle.plcx_types.specs.Reserved.{is_own}
 use Rattle.plcx_funcs.specs.Applied.{is_zero, both_bits, turned}
 
@@ -60,7 +60,7 @@ abbrev pub same_memory : Memory → Memory → Bool
 same_memory (AtEdge i) (AtEdge j) = nat_eq i j
 same_memory (AtEdge i) (AtOutput j pin) = false
 same_memory (AtOutput i pin) (AtEdge j) = false
-same_memory (AtOutput i pin) (AtOutput j other) = nat_eq i j && bytes_eq (folded pin) (folded other)
+same_memory (AtOutput i pin) (AtOutput j other) = nat_eq i j && bytes_eq (in_lower_case pin) (in_lower_case other)
 
 -- the memories of all instances after a write of one
 abbrev pub put_memory : (Path → Memory → ℤ) → Path → Memory → ℤ → Path → Memory → ℤ

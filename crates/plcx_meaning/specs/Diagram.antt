@@ -4,7 +4,7 @@ use Rattle.std.specs.List.{list_any}
 use Rattle.std.specs.Str.{bytes_eq}
 use Rattle.plcx_types.specs.declared.ty.Ty.{Ty}
 use Rattle.plcx_types.specs.declared.ty.Ty.TheVariants as ty
-use Rattle.plcx_types.specs.Name.{folded}
+use Rattle.plcx_types.specs.Name.{in_lower_case}
 use Rattle.plcx_funcs.specs.declared.func.Func.{Func}
 use Rattle.plcx_meaning.specs.Functions.{out_type}
 use Rattle.plcx_meaning.specs.Tree.{PouKind, Program, FunctionBlock, Block}
@@ -152,7 +152,7 @@ abbrev pub has_jump : List (List Element) → Bool
 has_jump networks = list_any (list_any is_jump) networks
 
 abbrev pub is_label : List ℕ → Element → Bool
-is_label label e = elim e.kind [ Label name ↦ bytes_eq (folded name) (folded label) | _ ↦ false ]
+is_label label e = elim e.kind [ Label name ↦ bytes_eq (in_lower_case name) (in_lower_case label) | _ ↦ false ]
 
 -- the number of the network that the label stands in
 abbrev pub target : List ℕ → List (List Element) → ℕ
@@ -166,9 +166,9 @@ is_program FunctionBlock = false
 -- the program of a name
 abbrev pub program_named : List ℕ → Project → Option Pou
 program_named name [] = None
-program_named name (p ∷ ps) = if is_program p.kind && bytes_eq (folded p.name) (folded name) then Some p else program_named name ps
+program_named name (p ∷ ps) = if is_program p.kind && bytes_eq (in_lower_case p.name) (in_lower_case name) then Some p else program_named name ps
 
 -- the function block of a name
 abbrev pub block_named : List ℕ → Project → Option Pou
 block_named name [] = None
-block_named name (p ∷ ps) = if not (is_program p.kind) && bytes_eq (folded p.name) (folded name) then Some p else block_named name ps
+block_named name (p ∷ ps) = if not (is_program p.kind) && bytes_eq (in_lower_case p.name) (in_lower_case name) then Some p else block_named name ps

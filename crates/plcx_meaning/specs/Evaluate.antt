@@ -5,7 +5,7 @@ use Rattle.std.specs.declared.result.Result.{Result}
 use Rattle.std.specs.declared.result.Result.TheVariants.{Ok, Err}
 use Rattle.plcx_types.specs.declared.fault.Fault.{Fault}
 use Rattle.plcx_types.specs.declared.ty.Ty.{Ty}
-use Rattle.plcx_types.specs.Name.{folded}
+use Rattle.plcx_types.specs.Name.{in_lower_case}
 use Rattle.plcx_types.specs.Value.{Value}
 use Rattle.plcx_std.specs.Kind.{kind_named}
 use Rattle.plcx_funcs.specs.declared.func.Func.{Func}
@@ -31,7 +31,7 @@ abbrev pub no_wires : Wires
 no_wires id pin = pos 0
 
 abbrev pub fix : Wires → ℕ → List ℕ → ℤ → Wires
-fix ws id pin v i p = if nat_eq i id && bytes_eq (folded p) (folded pin) then v else ws i p
+fix ws id pin v i p = if nat_eq i id && bytes_eq (in_lower_case p) (in_lower_case pin) then v else ws i p
 
 abbrev pub set_leaf : Diagram → Path → ℤ → Diagram
 set_leaf d p v = record d { store = put d.store p v }
@@ -45,11 +45,11 @@ is_in_out None = false
 is_in_out (Some v) = elim v.class [ tree.InOut ↦ true | _ ↦ false ]
 
 abbrev pub leaf_named : List Variable → Site → List ℕ → Path
-leaf_named vs site x = if is_in_out (variable_named (folded x) vs) then site.bound (folded x) else folded x ∷ site.path
+leaf_named vs site x = if is_in_out (variable_named (in_lower_case x) vs) then site.bound (in_lower_case x) else in_lower_case x ∷ site.path
 
 abbrev pub operand_leaf : List Variable → Site → Operand → Path
 operand_leaf vs site (Own x) = leaf_named vs site x
-operand_leaf vs site (Output i x) = folded x ∷ folded i ∷ site.path
+operand_leaf vs site (Output i x) = in_lower_case x ∷ in_lower_case i ∷ site.path
 
 -- a feedback connection reads what its source gave when it was last evaluated
 abbrev pub source_value : Path → Diagram → Wires → Source → ℤ
@@ -116,17 +116,17 @@ function_result f t inputs v values = if is_true v then applied f t (map (λ l. 
 -- a call stores its connected inputs in the instance
 abbrev pub store_inputs : List Input → Path → (Link → ℤ) → Diagram → Diagram
 store_inputs [] inner values d = d
-store_inputs (i ∷ is) inner values d = store_inputs is inner values (set_leaf d (folded i.name ∷ inner) (values i.link))
+store_inputs (i ∷ is) inner values d = store_inputs is inner values (set_leaf d (in_lower_case i.name ∷ inner) (values i.link))
 
 -- its in-outs stand for the leaves of their variables
 abbrev pub bind : List InOut → (List ℕ → Path) → List ℕ → Path
 bind [] leaf key = []
-bind (i ∷ is) leaf key = if bytes_eq (folded i.name) key then leaf i.variable else bind is leaf key
+bind (i ∷ is) leaf key = if bytes_eq (in_lower_case i.name) key then leaf i.variable else bind is leaf key
 
 -- and its wires are the stored outputs
 abbrev pub take_outputs : List Output' → ℕ → Path → Diagram → Wires → Wires
 take_outputs [] id inner d ws = ws
-take_outputs (o ∷ os) id inner d ws = take_outputs os id inner d (fix ws id o.name (not_if o.negated (d.store (folded o.name ∷ inner))))
+take_outputs (o ∷ os) id inner d ws = take_outputs os id inner d (fix ws id o.name (not_if o.negated (d.store (in_lower_case o.name ∷ inner))))
 
 -- how a block is evaluated: the one of a type's name, as the instance at a site
 abbrev pub Called : Type 0
@@ -142,7 +142,7 @@ pub record Setting : Type 0 where
 abbrev pub call_does : List ℕ → List ℕ → ℤ → List Input → List InOut → Setting → (Link → ℤ) → Diagram → Outcome Diagram (Unit {0})
 call_does instance type v inputs in_outs c values d =
     if is_true v
-    then c.called type (record { path = folded instance ∷ c.site.path; bound = bind in_outs (leaf_named c.variables c.site) }) (store_inputs inputs (folded instance ∷ c.site.path) values d)
+    then c.called type (record { path = in_lower_case instance ∷ c.site.path; bound = bind in_outs (leaf_named c.variables c.site) }) (store_inputs inputs (in_lower_case instance ∷ c.site.path) values d)
     else Ended d tt
 
 -- the effect of an element of this number
@@ -169,11 +169,11 @@ kind_does (Function f t enable inputs negated) id c d ws =
     (turn (eno_negated enable) id (codes "ENO")
     (fix (fix_eno enable id (enable_value (link_value c.site.path d ws) enable) ws) id (codes "OUT") n))))
 kind_does (Call instance enable inputs in_outs outputs) id c d ws =
-    found (variable_named (folded instance) c.variables) (λ v.
+    found (variable_named (in_lower_case instance) c.variables) (λ v.
     then_do (call_does instance v.ty (enable_value (link_value c.site.path d ws) enable) inputs in_outs c (link_value c.site.path d ws) d) (λ d' u.
     Ended d'
     (turn (eno_negated enable) id (codes "ENO")
-    (take_outputs outputs id (folded instance ∷ c.site.path) d' (fix_eno enable id (enable_value (link_value c.site.path d ws) enable) ws)))))
+    (take_outputs outputs id (in_lower_case instance ∷ c.site.path) d' (fix_eno enable id (enable_value (link_value c.site.path d ws) enable) ws)))))
 
 -- what feeds back is remembered when the element has been evaluated to its end
 abbrev pub feed : ℕ → List Port → Path → Wires → Diagram → Diagram

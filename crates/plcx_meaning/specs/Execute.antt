@@ -4,7 +4,7 @@ use Rattle.std.specs.List.{list_any, list_all}
 use Rattle.std.specs.Str.{bytes_eq}
 use Rattle.plcx_types.specs.declared.ty.Ty.{Ty}
 use Rattle.plcx_types.specs.declared.ty.Ty.TheVariants as ty
-use Rattle.plcx_types.specs.Name.{folded}
+use Rattle.plcx_types.specs.Name.{in_lower_case}
 use Rattle.plcx_types.specs.TypeName.{same_ty}
 use Rattle.plcx_types.specs.Value.{Value}
 use Rattle.plcx_std.specs.Kind.{kind_named}
@@ -48,7 +48,7 @@ pub record Here : Type 0 where
   pub site : Site
 
 abbrev pub place_of : Here → List ℕ → Place
-place_of c x = place c.world (variable_named (folded x) c.variables)
+place_of c x = place c.world (variable_named (in_lower_case x) c.variables)
 
 -- what a scan changes: the leaves, those of memories among them, and the turns that are left
 pub record Run : Type 0 where
@@ -64,7 +64,7 @@ abbrev pub fresh : List Variable → Frame
 fresh vs key = initial_of (variable_named key vs)
 
 abbrev pub hold : Frame → List ℕ → ℤ → Frame
-hold f x v key = if bytes_eq key (folded x) then v else f key
+hold f x v key = if bytes_eq key (in_lower_case x) then v else f key
 
 abbrev pub with_value : {A L : Type 0} → Answer A → Run → (A → Outcome Run L) → Outcome Run L
 with_value (Given x) g go = go x
@@ -77,22 +77,22 @@ with_truth a g go = with_value a g (λ v. if same_ty v.ty ty.Bool then go (is_tr
 
 -- the leaf that a name stands for, where it stands for one
 abbrev pub leaf_at : Place → List ℕ → Site → Path
-leaf_at (Kept t) x site = folded x ∷ site.path
-leaf_at (Bound t) x site = site.bound (folded x)
+leaf_at (Kept t) x site = in_lower_case x ∷ site.path
+leaf_at (Bound t) x site = site.bound (in_lower_case x)
 leaf_at (Temporary t) x site = []
 leaf_at (Instance type) x site = []
 leaf_at Unknown x site = []
 
 abbrev pub read : Place → List ℕ → Site → (Path → ℤ) → Frame → Answer Value
-read (Kept t) x site s f = Given (value t (s (folded x ∷ site.path)))
-read (Bound t) x site s f = Given (value t (s (site.bound (folded x))))
-read (Temporary t) x site s f = Given (value t (f (folded x)))
+read (Kept t) x site s f = Given (value t (s (in_lower_case x ∷ site.path)))
+read (Bound t) x site s f = Given (value t (s (site.bound (in_lower_case x))))
+read (Temporary t) x site s f = Given (value t (f (in_lower_case x)))
 read (Instance type) x site s f = Missing
 read Unknown x site s f = Missing
 
 -- the variables of the instance of a name
 abbrev pub parts_named : Here → List ℕ → List Variable
-parts_named c i = parts_of c.world (variable_named (folded i) c.variables)
+parts_named c i = parts_of c.world (variable_named (in_lower_case i) c.variables)
 
 abbrev pub read_member : Meaning → Class → Path → (Path → ℤ) → Answer Value
 read_member (Elementary t) Output p s = Given (value t (s p))
@@ -125,7 +125,7 @@ abbrev mutual
   pub value_of : Expression → Here → (Path → ℤ) → Frame → Answer Value
   value_of (Number v) c s f = Given v
   value_of (Name x) c s f = read (place_of c x) x c.site s f
-  value_of (Member i x) c s f = read_output c.world (variable_named (folded x) (parts_named c i)) (folded x ∷ folded i ∷ c.site.path) s
+  value_of (Member i x) c s f = read_output c.world (variable_named (in_lower_case x) (parts_named c i)) (in_lower_case x ∷ in_lower_case i ∷ c.site.path) s
   value_of (Apply x es) c s f = on_value (values_of es c s f) (call_named (function_named x))
   value_of (Not e) c s f = on_value (value_of e c s f) (λ v. call_function func.Not (v ∷ []))
   value_of (Binary op a b) c s f = on_value (value_of a c s f) (λ v. on_value (value_of b c s f) (λ w. call_function (function_of op) (v ∷ w ∷ [])))
@@ -136,8 +136,8 @@ abbrev mutual
 
 -- a value goes to a place of its type
 abbrev pub assign : Place → List ℕ → Site → Value → Run → Frame → Outcome Run Frame
-assign (Kept t) x site v g f = if same_ty v.ty t then Ended (record g { store = put g.store (folded x ∷ site.path) v.n }) f else Stuck
-assign (Bound t) x site v g f = if same_ty v.ty t then Ended (record g { store = put g.store (site.bound (folded x)) v.n }) f else Stuck
+assign (Kept t) x site v g f = if same_ty v.ty t then Ended (record g { store = put g.store (in_lower_case x ∷ site.path) v.n }) f else Stuck
+assign (Bound t) x site v g f = if same_ty v.ty t then Ended (record g { store = put g.store (site.bound (in_lower_case x)) v.n }) f else Stuck
 assign (Temporary t) x site v g f = if same_ty v.ty t then Ended g (hold f x v.n) else Stuck
 assign (Instance type) x site v g f = Stuck
 assign Unknown x site v g f = Stuck
@@ -158,7 +158,7 @@ formal world None = NoFormal
 formal world (Some v) = formal_by (meaning world v.ty) v.class
 
 abbrev pub formal_named : Here → List ℕ → List ℕ → Formal
-formal_named c i x = formal c.world (variable_named (folded x) (parts_named c i))
+formal_named c i x = formal c.world (variable_named (in_lower_case x) (parts_named c i))
 
 abbrev pub has_leaf : Place → Ty → Bool
 has_leaf (Kept u) t = same_ty u t
@@ -180,7 +180,7 @@ store_argument NoFormal a c p old f g go = Stuck
 abbrev pub store_arguments : List Argument → Here → List ℕ → Run → Frame → Run → (Run → Outcome Run Frame) → Outcome Run Frame
 store_arguments [] c i old f g go = go g
 store_arguments (a ∷ rest) c i old f g go =
-    store_argument (formal_named c i a.formal) a c (folded a.formal ∷ folded i ∷ c.site.path) old f g (λ h. store_arguments rest c i old f h go)
+    store_argument (formal_named c i a.formal) a c (in_lower_case a.formal ∷ in_lower_case i ∷ c.site.path) old f g (λ h. store_arguments rest c i old f h go)
 
 abbrev pub leaf_of : Here → Expression → Path
 leaf_of c (Name x) = leaf_at (place_of c x) x c.site
@@ -194,11 +194,11 @@ binds NoFormal = false
 -- the in-outs of the instance that is called stand for the leaves that their arguments name
 abbrev pub bind : List Argument → Here → List ℕ → List ℕ → Path
 bind [] c i key = []
-bind (a ∷ rest) c i key = if binds (formal_named c i a.formal) && bytes_eq (folded a.formal) key then leaf_of c a.value else bind rest c i key
+bind (a ∷ rest) c i key = if binds (formal_named c i a.formal) && bytes_eq (in_lower_case a.formal) key then leaf_of c a.value else bind rest c i key
 
 -- a call has an argument for each in-out
 abbrev pub is_bound : List Argument → Variable → Bool
-is_bound args v = elim v.class [ InOut ↦ list_any (λ (a : Argument). bytes_eq (folded a.formal) (folded v.name)) args | _ ↦ true ]
+is_bound args v = elim v.class [ InOut ↦ list_any (λ (a : Argument). bytes_eq (in_lower_case a.formal) (in_lower_case v.name)) args | _ ↦ true ]
 
 abbrev pub all_bound : List Argument → List Variable → Bool
 all_bound args vs = list_all (is_bound args) vs
@@ -219,7 +219,7 @@ abbrev pub invoke : List ℕ → List Argument → Here → Invoked → Run → 
 invoke i args c call g f =
     found (type_of_instance (place_of c i)) (λ type.
     if all_bound args (parts_named c i)
-    then store_arguments args c i g f g (λ h. then_do (call type (record { path = folded i ∷ c.site.path; bound = bind args c i }) h) (λ k u. Ended k f))
+    then store_arguments args c i g f g (λ h. then_do (call type (record { path = in_lower_case i ∷ c.site.path; bound = bind args c i }) h) (λ k u. Ended k f))
     else Stuck)
 
 -- A loop: each turn costs one of the budget. The first number only bounds the recursion; it is the number of turns that are left.
@@ -262,12 +262,12 @@ run_pou p world call site g =
 -- the program of a name
 abbrev pub program_named : List ℕ → List PouText → Option PouText
 program_named name [] = None
-program_named name (p ∷ ps) = if is_program p.kind && bytes_eq (folded p.name) (folded name) then Some p else program_named name ps
+program_named name (p ∷ ps) = if is_program p.kind && bytes_eq (in_lower_case p.name) (in_lower_case name) then Some p else program_named name ps
 
 -- the function block of a name
 abbrev pub block_named : List ℕ → List PouText → Option PouText
 block_named name [] = None
-block_named name (p ∷ ps) = if not (is_program p.kind) && bytes_eq (folded p.name) (folded name) then Some p else block_named name ps
+block_named name (p ∷ ps) = if not (is_program p.kind) && bytes_eq (in_lower_case p.name) (in_lower_case name) then Some p else block_named name ps
 
 abbrev pub world_of : List PouText → World
 world_of unit key = elim (block_named key unit) [ Some p ↦ p.blocks | None ↦ [] ]

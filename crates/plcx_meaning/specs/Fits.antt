@@ -4,7 +4,7 @@ use Rattle.std.specs.List.{list_any, list_all, sum_by, Contains}
 use Rattle.std.specs.Str.{bytes_eq}
 use Rattle.plcx_types.specs.declared.ty.Ty.{Ty}
 use Rattle.plcx_types.specs.declared.ty.Ty.TheVariants as ty
-use Rattle.plcx_types.specs.Name.{folded, is_identifier, is_next_byte}
+use Rattle.plcx_types.specs.Name.{in_lower_case, is_identifier, is_next_byte}
 use Rattle.plcx_types.specs.Range.{InRange}
 use Rattle.plcx_types.specs.Reserved.{is_reserved}
 use Rattle.plcx_types.specs.TypeName.{type_named}
@@ -28,7 +28,7 @@ IsGoodName name = IsTrue (is_identifier name) × (length name ≤ 64) × (is_res
 -- the name is declared with the type among these variables, in a class of these
 pub record HasType (vs : List Variable) (x : List ℕ) (t : Ty) (Suits : Class → Type 0) : Type 0 where
   pub variable : Variable
-  pub found : variable_named (folded x) vs ≡ Some variable
+  pub found : variable_named (in_lower_case x) vs ≡ Some variable
   pub typed : type_named variable.ty ≡ Some t
   pub class : Suits variable.class
 
@@ -38,12 +38,12 @@ IsVariable vs x t = HasType vs x t (λ class. class ≢ Temp)
 
 -- a variable that can be written: no input and no constant
 abbrev pub CanBeWritten : List Variable → List ℕ → Type 0
-CanBeWritten vs x = (v : Variable) → variable_named (folded x) vs ≡ Some v → (v.class ≢ tree.Input) × (v.mark ≢ tree.Constant)
+CanBeWritten vs x = (v : Variable) → variable_named (in_lower_case x) vs ≡ Some v → (v.class ≢ tree.Input) × (v.mark ≢ tree.Constant)
 
 -- an instance, and the variables within it
 pub record IsInstance (world : World) (vs : List Variable) (i : List ℕ) (within : List Variable) : Type 0 where
   pub variable : Variable
-  pub found : variable_named (folded i) vs ≡ Some variable
+  pub found : variable_named (in_lower_case i) vs ≡ Some variable
   pub composite : type_named variable.ty ≡ None
   pub parts : within ≡ composed world variable.ty
 
@@ -98,7 +98,7 @@ OutputFits within o = HasType within o.name o.ty (λ class. class ≡ tree.Outpu
 
 -- each in-out of a block is one of the listed
 abbrev pub all_listed : List InOut → List Variable → Bool
-all_listed in_outs vs = list_all (λ (v : Variable). elim v.class [ tree.InOut ↦ list_any (λ (i : InOut). bytes_eq (folded i.name) (folded v.name)) in_outs | _ ↦ true ]) vs
+all_listed in_outs vs = list_all (λ (v : Variable). elim v.class [ tree.InOut ↦ list_any (λ (i : InOut). bytes_eq (in_lower_case i.name) (in_lower_case v.name)) in_outs | _ ↦ true ]) vs
 
 pub record CallFits (at : Standing) (instance : List ℕ) (taken : List Input) (bound : List InOut) (given : List Output') : Type 0 where
   pub within : List Variable
@@ -108,7 +108,7 @@ pub record CallFits (at : Standing) (instance : List ℕ) (taken : List Input) (
   pub all : all_listed bound within ≡ true
   pub outputs : Each (OutputFits within) given
   -- nothing is named twice
-  pub formals : are_distinct (map (λ (i : Input). folded i.name) taken ++ map (λ (i : InOut). folded i.name) bound) ≡ true
+  pub formals : are_distinct (map (λ (i : Input). in_lower_case i.name) taken ++ map (λ (i : InOut). in_lower_case i.name) bound) ≡ true
 
 pub record FunctionFits (at : Standing) (f : Func) (t : Ty) (links : List Link) : Type 0 where
   pub function : is_function f ≡ true
@@ -154,9 +154,9 @@ IsPin o = (list_all is_next_byte o.pin ≡ true) × (length o.pin ≤ 64)
 -- an element's outputs have names of their own, and what feeds back is among them
 pub record PortsFit (e : Element) : Type 0 where
   pub small : e.id < 2 ^ 64
-  pub pins : are_distinct (map (λ (o : Port). folded o.pin) (ports e.kind)) ≡ true
+  pub pins : are_distinct (map (λ (o : Port). in_lower_case o.pin) (ports e.kind)) ≡ true
   pub fed : Each (Contains (ports e.kind)) e.fed
-  pub distinct : are_distinct (map (λ (o : Port). folded o.pin) e.fed) ≡ true
+  pub distinct : are_distinct (map (λ (o : Port). in_lower_case o.pin) e.fed) ≡ true
   pub names : Each IsPin (ports e.kind)
 
 -- a type that a variable may have
@@ -194,7 +194,7 @@ parts (suc n) project p = sum_by (λ (e : Element). suc (length e.fed)) p.elemen
 pub record PouFits (project : Project) (p : Pou) : Type 0 where
   pub name : IsGoodName p.name
   pub variables : Each (VariableFits project) (variables_of p.lists)
-  pub distinct : are_distinct (map (λ (v : Variable). folded v.name) (variables_of p.lists)) ≡ true
+  pub distinct : are_distinct (map (λ (v : Variable). in_lower_case v.name) (variables_of p.lists)) ≡ true
   pub few : length (variables_of p.lists) ≤ 4096
   pub ids : all_differ (map (λ (e : Element). e.id) p.elements) ≡ true
   pub elements : length p.elements ≤ 4096
@@ -213,6 +213,6 @@ Nests (suc n) project p = (x : List ℕ) (v : Variable) → variable_named x (va
     → (q : Pou) × (block_named v.ty project ≡ Some q) × Nests n project q
 
 pub record ProjectFits (project : Project) : Type 0 where
-  pub names : are_distinct (map (λ (p : Pou). folded p.name) project) ≡ true
+  pub names : are_distinct (map (λ (p : Pou). in_lower_case p.name) project) ≡ true
   pub pous : Each (PouFits project) project
   pub nests : Each (Nests 16 project) project

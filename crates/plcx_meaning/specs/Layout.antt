@@ -3,7 +3,7 @@ use Rattle.std.specs.Prelude.{◌≡◌, ℕ, zero, suc, ℤ, pos, Bool, true, f
 use Rattle.std.specs.List.{flat_map}
 use Rattle.std.specs.Str.{bytes_eq}
 use Rattle.plcx_types.specs.declared.ty.Ty.{Ty}
-use Rattle.plcx_types.specs.Name.{folded}
+use Rattle.plcx_types.specs.Name.{in_lower_case}
 use Rattle.plcx_types.specs.Range.{InRange}
 use Rattle.plcx_types.specs.Reserved.{is_own}
 use Rattle.plcx_types.specs.TypeName.{type_named}
@@ -34,7 +34,7 @@ variables_of blocks = flat_map block_variables blocks
 -- the variable of this name without case, the first where it is declared twice
 abbrev pub variable_named : List ℕ → List Variable → Option Variable
 variable_named key [] = None
-variable_named key (v ∷ vs) = if bytes_eq (folded v.name) key then Some v else variable_named key vs
+variable_named key (v ∷ vs) = if bytes_eq (in_lower_case v.name) key then Some v else variable_named key vs
 
 -- the blocks of the function blocks of a project or a unit, by their names without case
 abbrev pub World : Type 0
@@ -46,7 +46,7 @@ pub data Meaning : Type 0 where
   Composed : List Variable → Meaning
 
 abbrev pub composed : World → List ℕ → List Variable
-composed world name = elim (kind_named name) [ Some k ↦ variables_of (pin_blocks k) | None ↦ variables_of (world (folded name)) ]
+composed world name = elim (kind_named name) [ Some k ↦ variables_of (pin_blocks k) | None ↦ variables_of (world (in_lower_case name)) ]
 
 abbrev pub meaning : World → List ℕ → Meaning
 meaning world name = elim (type_named name) [ Some t ↦ Elementary t | None ↦ Composed (composed world name) ]
@@ -134,7 +134,7 @@ is_kept Temp = false
 -- the leaves of a variable of the instance at a path; inner gives those of the variables of an instance
 abbrev pub variable_leaves : (Path → List Variable → List Leaf) → Scope → Path → Variable → List Leaf
 variable_leaves inner c p v = if is_kept v.class
-    then (elim (meaning c.world v.ty) [ Elementary t ↦ leaf_of c (folded v.name ∷ p) t v.mark ∷ [] | Composed vs ↦ inner (folded v.name ∷ p) vs ])
+    then (elim (meaning c.world v.ty) [ Elementary t ↦ leaf_of c (in_lower_case v.name ∷ p) t v.mark ∷ [] | Composed vs ↦ inner (in_lower_case v.name ∷ p) vs ])
     else []
 
 -- the leaves of variables in their order, those of an instance in its place, so many levels deep

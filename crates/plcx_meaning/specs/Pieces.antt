@@ -3,7 +3,7 @@ use Rattle.std.specs.Prelude.{ℕ, ℤ, false, List, [], ◌∷◌, Some, None, 
 use Rattle.std.specs.List.{flat_map}
 use Rattle.plcx_types.specs.declared.ty.Ty.{Ty}
 use Rattle.plcx_types.specs.declared.ty.Ty.TheVariants as ty
-use Rattle.plcx_types.specs.Name.{folded}
+use Rattle.plcx_types.specs.Name.{in_lower_case}
 use Rattle.plcx_types.specs.TypeName.{type_name}
 use Rattle.plcx_funcs.specs.declared.func.Func.{Func}
 use Rattle.plcx_funcs.specs.Applied.{value}
@@ -116,4 +116,4 @@ output name t = record { name = name; ty = t; negated = false }
 
 -- a scan that sets variables first
 abbrev pub scan : ℕ → List (List ℕ × ℤ) → Event
-scan time inputs = Scan time (map (λ (i : List ℕ × ℤ). record { path = folded i.0 ∷ []; value = i.1 }) inputs)
+scan time inputs = Scan time (map (λ (i : List ℕ × ℤ). record { path = in_lower_case i.0 ∷ []; value = i.1 }) inputs)

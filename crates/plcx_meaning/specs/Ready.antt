@@ -4,7 +4,7 @@ use Rattle.std.specs.Prelude.{◌≡◌, ◌≢◌, ◌≤◌, ℕ, zero, suc, B
 use Rattle.std.specs.List.{sum_by}
 use Rattle.plcx_types.specs.declared.ty.Ty.{Ty}
 use Rattle.plcx_types.specs.declared.ty.Ty.TheVariants as ty
-use Rattle.plcx_types.specs.Name.{folded}
+use Rattle.plcx_types.specs.Name.{in_lower_case}
 use Rattle.plcx_types.specs.Range.{InRange}
 use Rattle.plcx_types.specs.Reserved.{is_listed}
 use Rattle.plcx_types.specs.TypeName.{type_named}
@@ -43,7 +43,7 @@ ValueIsReady c e NoFormal = ⊥
 pub record CallIsReady (c : Scope) (i : List ℕ) (args : List Argument) : Type 0 where
   pub type : List ℕ
   pub instance : place c.world (variable_in c i) ≡ Instance type
-  pub distinct : are_distinct (map (λ (a : Argument). folded a.formal) args) ≡ true
+  pub distinct : are_distinct (map (λ (a : Argument). in_lower_case a.formal) args) ≡ true
   pub values : Each (λ (a : Argument). ValueIsReady c a.value (formal c.world (part_in c i a.formal))) args
   pub bound : all_bound args (parts_of c.world (variable_in c i)) ≡ true
 
@@ -108,12 +108,12 @@ size (suc n) world vs = sum_by (variable_size (size n world) world) vs
 
 pub record PouIsReady (unit : List PouText) (p : PouText) : Type 0 where
   pub free : is_listed p.name ≡ false
-  pub distinct : are_distinct (map (λ (v : Variable). folded v.name) (variables_of p.blocks)) ≡ true
+  pub distinct : are_distinct (map (λ (v : Variable). in_lower_case v.name) (variables_of p.blocks)) ≡ true
   pub variables : Each (VariableIsReady unit p.kind) (variables_of p.blocks)
   pub body : Each (StatementIsReady (scope_of unit p)) p.body
   pub nests : Nests 16 unit p
   pub small : size 18 (world_of unit) (variables_of p.blocks) ≤ 8388608
 
 pub record IsReady (unit : List PouText) : Type 0 where
-  pub distinct : are_distinct (map (λ (p : PouText). folded p.name) unit) ≡ true
+  pub distinct : are_distinct (map (λ (p : PouText). in_lower_case p.name) unit) ≡ true
   pub pous : Each (PouIsReady unit) unit

@@ -1,6 +1,6 @@
 -- When two sides behave alike, and when a text does what a diagram does.
 use Rattle.std.specs.Prelude.{◌≡◌, ◌≢◌, ℕ, ℤ, true, List, [], ◌∷◌, Some}
-use Rattle.plcx_types.specs.Name.{folded}
+use Rattle.plcx_types.specs.Name.{in_lower_case}
 use Rattle.plcx_meaning.specs.Base.{Path, is_declared, Memory}
 use Rattle.plcx_meaning.specs.Tree.{PouText}
 use Rattle.plcx_meaning.specs.Layout.{declared_leaves, IsRetainedState}
@@ -39,7 +39,7 @@ Behaves project unit = (name : List ℕ) (p : Pou) → diagram.program_named nam
 -- a state of a diagram and one of a text agree: on all declared paths, on each memory and its variable, and on the turns that are left
 pub record Agree (d : Diagram) (g : Run) : Type 0 where
   pub stores : (p : Path) → is_declared p ≡ true → d.store p ≡ g.store p
-  pub memories : (p : Path) (k : Memory) → is_declared p ≡ true → d.memories p k ≡ g.store (folded (memory_name k) ∷ p)
+  pub memories : (p : Path) (k : Memory) → is_declared p ≡ true → d.memories p k ≡ g.store (in_lower_case (memory_name k) ∷ p)
   pub lefts : d.left ≡ g.left
 
 -- their states agree after each event

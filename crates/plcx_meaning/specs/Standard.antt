@@ -1,6 +1,6 @@
 -- A standard block as an instance: its variables, and a call of it on the leaves of a store.
 use Rattle.std.specs.Prelude.{ℕ, ℤ, pos, Bool, true, false, List, [], ◌∷◌, None, map, filter, codes}
-use Rattle.plcx_types.specs.Name.{folded}
+use Rattle.plcx_types.specs.Name.{in_lower_case}
 use Rattle.plcx_types.specs.TypeName.{type_name}
 use Rattle.plcx_types.specs.Value.{Value}
 use Rattle.plcx_std.specs.declared.kind.StdKind.{StdKind}
@@ -80,7 +80,7 @@ state_of kind.FTrig at = state.FTrig (edge at)
 abbrev pub put_values : List Pin → List Value → Path → (Path → ℤ) → Path → ℤ
 put_values [] vs p s = s
 put_values (x ∷ xs) [] p s = s
-put_values (x ∷ xs) (v ∷ vs) p s = put_values xs vs p (put s (folded x.name ∷ p) v.n)
+put_values (x ∷ xs) (v ∷ vs) p s = put_values xs vs p (put s (in_lower_case x.name ∷ p) v.n)
 
 -- one call of a standard block at a path
 abbrev pub called : StdKind → (time : ℕ) → Path → (Path → ℤ) → Path → ℤ

@@ -2,7 +2,7 @@
 use Rattle.std.specs.Prelude.{ℕ, Bool, true, false, not, List, [], ◌∷◌, Option, Some, None, if◌then◌else◌}
 use Rattle.std.specs.Option.{option_map, option_and_then}
 use Rattle.plcx_types.specs.declared.ty.Ty.{Ty}
-use Rattle.plcx_types.specs.Name.{folded}
+use Rattle.plcx_types.specs.Name.{in_lower_case}
 use Rattle.plcx_types.specs.Range.{InRange}
 use Rattle.plcx_funcs.specs.declared.func.Func.{Func}
 use Rattle.plcx_funcs.specs.declared.func.Func.TheVariants as func
@@ -14,11 +14,11 @@ use Rattle.plcx_meaning.specs.Execute.{Place, Temporary, Kept, Bound, Instance, 
 
 -- the variable that a name means in a POU
 abbrev pub variable_in : Scope → List ℕ → Option Variable
-variable_in c x = variable_named (folded x) c.own
+variable_in c x = variable_named (in_lower_case x) c.own
 
 -- and one of the instance that a name means
 abbrev pub part_in : Scope → (instance part : List ℕ) → Option Variable
-part_in c i x = variable_named (folded x) (parts_of c.world (variable_in c i))
+part_in c i x = variable_named (in_lower_case x) (parts_of c.world (variable_in c i))
 
 abbrev pub place_type : Place → Option Ty
 place_type (Temporary t) = Some t

@@ -1,3 +1,4 @@
+pub mod Verdict
 pub mod Keys
 pub mod Graph
 pub mod Shown

@@ -12,10 +12,10 @@ use Rattle.plcx_types.specs.declared.duration.TimeUnit.{TimeUnit}
 use Rattle.plcx_types.specs.declared.duration.TimeUnit.TheVariants as unit
 use Rattle.plcx_types.specs.declared.ty.Ty.{Ty}
 use Rattle.plcx_types.specs.declared.ty.Ty.TheVariants as ty
-use Rattle.plcx_types.specs.Name.{is_next_byte, is_identifier, is_first_byte, folded}
+use Rattle.plcx_types.specs.Name.{is_next_byte, is_identifier, is_first_byte, in_lower_case}
 use Rattle.plcx_types.specs.Reserved.{keywords, is_keyword}
 use Rattle.plcx_types.specs.Numeral as numeral
-use Rattle.plcx_types.specs.Numeral.{is_digit, are_digits, IsWhole}
+use Rattle.plcx_types.specs.Numeral.{is_digit, are_digits, IsWholeNumber}
 use Rattle.plcx_types.specs.Duration as duration
 use Rattle.plcx_types.specs.Duration.{letters_of, AreDigits, AreParts, IsTime}
 use Rattle.plcx_types.specs.Literal as literal
@@ -68,7 +68,7 @@ table_test q (e ∷ table) w all h =
 pub lower_next : (b : ℕ) → is_next_byte (to_ascii_lowercase b) ≡ is_next_byte b
 lower_next b = grind arith
 
-pub folded_next : (xs : List ℕ) → list_all is_next_byte (folded xs) ≡ list_all is_next_byte xs
+pub folded_next : (xs : List ℕ) → list_all is_next_byte (in_lower_case xs) ≡ list_all is_next_byte xs
 folded_next [] = refl
 folded_next (x ∷ xs) = rw (lower_next x, folded_next xs)
 
@@ -79,7 +79,7 @@ keyword_in [] w all h = absurd (let no : false ≡ true = h in cc)
 keyword_in (e ∷ table) w all h =
     let parts = and_parts (list_all is_next_byte e) (list_all (list_all is_next_byte) table) all in
     elim (cases_Bool (str_eq_ignore_ascii_case w e)) [
-      | inl same ↦ sym (folded_next w) ∙ ap (list_all is_next_byte) (same_bytes (folded w) (folded e) same) ∙ folded_next e ∙ parts.0
+      | inl same ↦ sym (folded_next w) ∙ ap (list_all is_next_byte) (same_bytes (in_lower_case w) (in_lower_case e) same) ∙ folded_next e ∙ parts.0
       | inr other ↦ keyword_in table w parts.1 (rw other at h)
     ]
 
@@ -115,7 +115,7 @@ numeral_inner base seen (b ∷ bs) h = elim (cases_Bool (is_digit base b)) [
       and_from (is_inner b) (list_all is_inner bs) (blank_inner b (and_parts seen (nat_eq b 95) parts.0).1) (numeral_inner base false bs parts.1)
 ]
 
-whole_inner : {text : List ℕ} {n : ℤ} → IsWhole text n → list_all is_inner text ≡ true
+whole_inner : {text : List ℕ} {n : ℤ} → IsWholeNumber text n → list_all is_inner text ≡ true
 whole_inner (numeral.plain {text = text} h) = numeral_inner 10 false text h.digits
 whole_inner (numeral.plus {text = text} h) = numeral_inner 10 false text h.digits
 whole_inner (numeral.minus {text = text} h) = numeral_inner 10 false text h.digits
@@ -272,7 +272,7 @@ pub opposite : (c : Bool) → c ≡ true → not c ≡ true → ⊥
 opposite true a b = (let no : false ≡ true = b in absurd cc)
 opposite false a b = (let no : false ≡ true = a in absurd cc)
 
-folded_all : (p : ℕ → Bool) (xs : List ℕ) → list_all p (folded xs) ≡ list_all (λ c. p (to_ascii_lowercase c)) xs
+folded_all : (p : ℕ → Bool) (xs : List ℕ) → list_all p (in_lower_case xs) ≡ list_all (λ c. p (to_ascii_lowercase c)) xs
 folded_all p [] = refl
 folded_all p (x ∷ xs) = ap (λ z. p (to_ascii_lowercase x) && z) (folded_all p xs)
 
@@ -300,8 +300,8 @@ pub point_inside : (k : TokenKind) (x : ℕ) (w more : List ℕ) → list_all is
 point_inside kind.Keyword x w more word h = (let no : false ≡ true = at_place is_next_byte (x ∷ w) 46 more (keyword_bytes (x ∷ (w ++ 46 ∷ more)) h.0) in absurd cc)
 point_inside kind.Name x w more word h = (let no : false ≡ true = at_place is_next_byte (x ∷ w) 46 more (name_bytes (x ∷ (w ++ 46 ∷ more)) h.0) in absurd cc)
 point_inside kind.Number x w more word h =
-    let split : folded (x ∷ (w ++ 46 ∷ more)) ≡ folded (x ∷ w) ++ 46 ∷ folded more = map-append to_ascii_lowercase (x ∷ w) (46 ∷ more) in
-    let no : false ≡ true = sym (no_hash (folded (x ∷ w)) (folded more) (folded_next (x ∷ w) ∙ word)) ∙ sym (ap hash_first split) ∙ typed_hash h.2 in
+    let split : in_lower_case (x ∷ (w ++ 46 ∷ more)) ≡ in_lower_case (x ∷ w) ++ 46 ∷ in_lower_case more = map-append to_ascii_lowercase (x ∷ w) (46 ∷ more) in
+    let no : false ≡ true = sym (no_hash (in_lower_case (x ∷ w)) (in_lower_case more) (folded_next (x ∷ w) ∙ word)) ∙ sym (ap hash_first split) ∙ typed_hash h.2 in
     absurd cc
 point_inside kind.Digits x w more word h = (let no : false ≡ true = at_place is_next_byte (x ∷ w) 46 more (digits_bytes (x ∷ (w ++ 46 ∷ more)) h.0) in absurd cc)
 point_inside kind.Address x w more word h =

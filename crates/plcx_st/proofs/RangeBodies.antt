@@ -4,7 +4,7 @@ use Rattle.std.specs.Prelude.{Option, Some, None, slice_get, if◌then◌else◌
 use Rattle.std.specs.Option.{option_map, option_and_then}
 use Rattle.plcx_types.specs.declared.ty.Ty.{Ty}
 use Rattle.plcx_types.specs.declared.ty.Ty.TheVariants as ty
-use Rattle.plcx_types.specs.Name.{folded}
+use Rattle.plcx_types.specs.Name.{in_lower_case}
 use Rattle.plcx_types.specs.TypeName.{type_named}
 use Rattle.plcx_funcs.specs.declared.func.Func.{Func}
 use Rattle.plcx_funcs.specs.declared.func.Func.TheVariants as func
@@ -27,8 +27,8 @@ abbrev pub HasWord : Variable → Type 0
 HasWord v = IsWord v.name
 
 -- the name that a variable is found by
-pub found_word : (x : List ℕ) (vs : List Variable) (v : Variable) → Each HasWord vs → variable_named (folded x) vs ≡ Some v → IsWord x
-found_word x vs v all h = word_same x v.name (sym (found_name (folded x) vs v h)) (each_found HasWord (folded x) vs v all h)
+pub found_word : (x : List ℕ) (vs : List Variable) (v : Variable) → Each HasWord vs → variable_named (in_lower_case x) vs ≡ Some v → IsWord x
+found_word x vs v all h = word_same x v.name (sym (found_name (in_lower_case x) vs v h)) (each_found HasWord (in_lower_case x) vs v all h)
 
 -- what is behind something
 and_then_some : {A B : Type 0} (o : Option A) (f : A → Option B) (y : B) → option_and_then f o ≡ Some y → (x : A) × (o ≡ Some x) × (f x ≡ Some y)
@@ -69,7 +69,7 @@ module _ (c : Scope) (own : Each HasWord c.own) (types : (type : List ℕ) → E
   part_words : (i x : List ℕ) (w : Variable) → part_in c i x ≡ Some w → IsWord i × IsWord x
   part_words i x w h = by (variable_in c i) refl h
     where
-      by : (o : Option Variable) → variable_in c i ≡ o → variable_named (folded x) (parts_of c.world o) ≡ Some w → IsWord i × IsWord x
+      by : (o : Option Variable) → variable_in c i ≡ o → variable_named (in_lower_case x) (parts_of c.world o) ≡ Some w → IsWord i × IsWord x
       by None e k = absurd (cc)
       by (Some v) e k = (found_word i c.own v own e, found_word x (parts_of c.world (Some v)) w (parts_words (Some v)) k)
 

@@ -7,7 +7,7 @@ use Rattle.std.specs.Option.{option_map}
 use Rattle.std.proofs.lemmas.Bool.{and_parts}
 use Rattle.plcx_types.specs.declared.ty.Ty.{Ty}
 use Rattle.plcx_types.specs.declared.ty.Ty.TheVariants as ty
-use Rattle.plcx_types.specs.Name.{folded}
+use Rattle.plcx_types.specs.Name.{in_lower_case}
 use Rattle.plcx_types.specs.Range.{InRange}
 use Rattle.plcx_types.specs.TypeName.{type_named}
 use Rattle.plcx_types.specs.Value.{Value}
@@ -51,14 +51,14 @@ of_flat_map P f (x ∷ xs) h = let parts = each_split P (f x) (flat_map f xs) h 
 
 -- ---- the names of types
 
-named_block : (type : List ℕ) (ps : Project) (q : Pou) → block_named type ps ≡ Some q → folded type ≡ folded q.name
+named_block : (type : List ℕ) (ps : Project) (q : Pou) → block_named type ps ≡ Some q → in_lower_case type ≡ in_lower_case q.name
 named_block type [] q h = absurd (cc)
-named_block type (p ∷ ps) q h = by (not (is_program p.kind) && bytes_eq (folded p.name) (folded type)) refl (named_block type ps q) h
+named_block type (p ∷ ps) q h = by (not (is_program p.kind) && bytes_eq (in_lower_case p.name) (in_lower_case type)) refl (named_block type ps q) h
   where
-    by : (b : Bool) → (not (is_program p.kind) && bytes_eq (folded p.name) (folded type)) ≡ b → (block_named type ps ≡ Some q → folded type ≡ folded q.name) → (if b then Some p else block_named type ps) ≡ Some q → folded type ≡ folded q.name
+    by : (b : Bool) → (not (is_program p.kind) && bytes_eq (in_lower_case p.name) (in_lower_case type)) ≡ b → (block_named type ps ≡ Some q → in_lower_case type ≡ in_lower_case q.name) → (if b then Some p else block_named type ps) ≡ Some q → in_lower_case type ≡ in_lower_case q.name
     by true e later k =
         let same : p ≡ q = cc in
-        subst (λ (r : Pou). folded type ≡ folded r.name) same (sym (bytes_same (folded p.name) (folded type) (and_parts (not (is_program p.kind)) (bytes_eq (folded p.name) (folded type)) e).1))
+        subst (λ (r : Pou). in_lower_case type ≡ in_lower_case r.name) same (sym (bytes_same (in_lower_case p.name) (in_lower_case type) (and_parts (not (is_program p.kind)) (bytes_eq (in_lower_case p.name) (in_lower_case type)) e).1))
     by false e later k = later k
 
 known_word : (project : Project) → Each (PouFits project) project → (type : List ℕ) → is_known project type ≡ true → IsWord type
@@ -212,14 +212,14 @@ words_from (v ∷ vs) h = let parts = and_parts (has_word v) (list_all has_word 
 composed_words : (project : Project) → Each (PouFits project) project → (type : List ℕ) → Each HasWord (composed (text.world_of (unit_of project)) type)
 composed_words project all type = by_kind (kind_named type)
   where
-    of_block : (o : Option Pou) → block_named (folded type) project ≡ o → Each HasWord (variables_of (elim (option_map pou_text o) [ Some p ↦ p.blocks | None ↦ [] ]))
+    of_block : (o : Option Pou) → block_named (in_lower_case type) project ≡ o → Each HasWord (variables_of (elim (option_map pou_text o) [ Some p ↦ p.blocks | None ↦ [] ]))
     of_block None e = tt
-    of_block (Some q) e = variables_words project all q (block_fits project (folded type) project q all e)
+    of_block (Some q) e = variables_words project all q (block_fits project (in_lower_case type) project q all e)
 
-    by_kind : (o : Option StdKind) → Each HasWord (elim o [ Some k ↦ variables_of (pin_blocks k) | None ↦ variables_of (text.world_of (unit_of project) (folded type)) ])
+    by_kind : (o : Option StdKind) → Each HasWord (elim o [ Some k ↦ variables_of (pin_blocks k) | None ↦ variables_of (text.world_of (unit_of project) (in_lower_case type)) ])
     by_kind (Some k) = words_from (variables_of (pin_blocks k)) (pins_pass k)
     by_kind None =
-        subst (λ (o : Option PouText). Each HasWord (variables_of (elim o [ Some p ↦ p.blocks | None ↦ [] ]))) (sym (block_text (folded type) project)) (of_block (block_named (folded type) project) refl)
+        subst (λ (o : Option PouText). Each HasWord (variables_of (elim o [ Some p ↦ p.blocks | None ↦ [] ]))) (sym (block_text (in_lower_case type) project)) (of_block (block_named (in_lower_case type) project) refl)
 
 -- ---- a project
 

@@ -1,12 +1,8 @@
--- The numbers of each type. BOOL has 0 and 1, and TIME counts milliseconds.
-use Rattle.std.specs.Prelude.{◌-◌, ◌^◌, ◌≤ℤ◌, ℕ, ℤ, pos, negsuc}
+-- The numbers of each type.
+use Rattle.std.specs.Prelude.{◌-◌, ◌^◌, ◌≤ℤ◌, ℕ, ℤ, pos, negsuc, if◌then◌else◌}
 use Rattle.plcx_types.specs.declared.ty.Ty.{Ty}
-use Rattle.plcx_types.specs.declared.ty.Ty.TheVariants as ty
-
--- the least and the greatest number of a type
-pub record Bounds : Type 0 where
-  pub low : ℤ
-  pub high : ℤ
+use Rattle.plcx_types.specs.declared.ty.Bounds.{Bounds}
+use Rattle.plcx_types.specs.ElementaryTypes.{row_of}
 
 -- the numbers of so many bits
 abbrev pub unsigned : ℕ → Bounds
@@ -16,21 +12,9 @@ unsigned bits = record { low = pos 0; high = pos (2 ^ bits - 1) }
 abbrev pub signed : ℕ → Bounds
 signed bits = record { low = negsuc (2 ^ (bits - 1) - 1); high = pos (2 ^ (bits - 1) - 1) }
 
+-- the least and the greatest number of a type
 abbrev pub bounds_of : Ty → Bounds
-bounds_of ty.Bool = unsigned 1
-bounds_of ty.Byte = unsigned 8
-bounds_of ty.Word = unsigned 16
-bounds_of ty.Dword = unsigned 32
-bounds_of ty.Lword = unsigned 64
-bounds_of ty.Sint = signed 8
-bounds_of ty.Int = signed 16
-bounds_of ty.Dint = signed 32
-bounds_of ty.Lint = signed 64
-bounds_of ty.Usint = unsigned 8
-bounds_of ty.Uint = unsigned 16
-bounds_of ty.Udint = unsigned 32
-bounds_of ty.Ulint = unsigned 64
-bounds_of ty.Time = signed 64
+bounds_of t = if (row_of t).signed then signed (row_of t).bits else unsigned (row_of t).bits
 
 -- the number is one of the type
 abbrev pub InRange : Ty → ℤ → Type 0

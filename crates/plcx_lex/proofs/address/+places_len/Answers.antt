@@ -1,6 +1,6 @@
 use Rattle.std.proofs.Common.{◌+◌, ◌-◌, ◌<◌, ℕ, List, inl, inr, arith, subst}
 use Rattle.std.proofs.lemmas.List.{length-take}
-use Rattle.plcx_types.specs.Name.{folded}
+use Rattle.plcx_types.specs.Name.{in_lower_case}
 use Rattle.plcx_lex.specs.Lexis.{is_decimal, ArePlaces}
 use Rattle.plcx_lex.specs.Scan.{LongestOf, NoneOf, IsRun}
 use Rattle.plcx_lex.proofs.TypedScan.{rest_all}
@@ -30,10 +30,10 @@ pub returns-in-None : goal.returns-in-None
 returns-in-None t c =
     let run = subst (λ (t : List ℕ). IsRun is_decimal t c.run_len-n.result) c.front.ensures c.run_len-n.ensures in
     places_digits c.args.most c.args.text.now c.run_len-n.result (omega (arith, c.if-most-eq0.false)) (omega (arith, c.if-n-eq0.false)) run
-    (λ lt is. subst (λ (t : List ℕ). NoneOf (ArePlaces (c.args.most - 1)) (folded t)) (rest_all c.args.text.now (c.run_len-n.result + 1)) c.in-None.ensures)
+    (λ lt is. subst (λ (t : List ℕ). NoneOf (ArePlaces (c.args.most - 1)) (in_lower_case t)) (rest_all c.args.text.now (c.run_len-n.result + 1)) c.in-None.ensures)
 
 pub returns-in-Some : goal.returns-in-Some
 returns-in-Some t c =
     let run = subst (λ (t : List ℕ). IsRun is_decimal t c.run_len-n.result) c.front.ensures c.run_len-n.ensures in
     places_more c.args.most c.args.text.now c.run_len-n.result c.in-Some.more (omega (arith, c.if-most-eq0.false)) (omega (arith, c.if-n-eq0.false)) run (omega (arith, run.within, length-take 9 c.args.text.now, c.if-n-text.false)) c.if-text-n-ne46.false
-    (subst (λ (t : List ℕ). LongestOf (ArePlaces (c.args.most - 1)) (folded t) c.in-Some.more) (rest_all c.args.text.now (c.run_len-n.result + 1)) c.in-Some.ensures)
+    (subst (λ (t : List ℕ). LongestOf (ArePlaces (c.args.most - 1)) (in_lower_case t) c.in-Some.more) (rest_all c.args.text.now (c.run_len-n.result + 1)) c.in-Some.ensures)

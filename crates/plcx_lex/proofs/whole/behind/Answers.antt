@@ -1,5 +1,5 @@
 use Rattle.std.proofs.Common.{arith}
-use Rattle.plcx_types.proofs.Behind.{folded_some, folded_none, folded_short}
+use Rattle.plcx_types.proofs.BehindWord.{folded_some, folded_none, folded_short}
 use Rattle.plcx_lex.proofs.whole.behind.Goals as goal
 
 pub returns-then-text-word : goal.returns-then-text-word
