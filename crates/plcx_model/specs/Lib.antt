@@ -1,4 +1,5 @@
 pub mod Verdict
+pub mod Lists
 pub mod Keys
 pub mod Graph
 pub mod Shown
@@ -6,3 +7,4 @@ pub mod Paths
 pub mod Networks
 pub mod Feedback
 pub mod Orders
+pub mod Numbering

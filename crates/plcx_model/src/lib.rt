@@ -11,6 +11,7 @@
 mod body;
 mod broken;
 mod key;
+mod numbering;
 mod plan;
 mod project;
 mod readers;

@@ -8,7 +8,7 @@ use Rattle.std.proofs.lemmas.Bool.{cases_eq}
 use Rattle.std.proofs.lemmas.List.Sorted.{sum_by_popped, All-permutation}
 use Rattle.std.proofs.lemmas.List.Sums.{sum_by-cons}
 use Rattle.std.proofs.lemmas.List.Elements.{All-head, All-tail}
-use Rattle.plcx_meaning.specs.Base.{Each}
+use Rattle.plcx_model.specs.Lists.{Each}
 use Rattle.plcx_model.specs.declared.source.Wire.{Wire}
 use Rattle.plcx_model.specs.Keys.{key_cmp}
 use Rattle.plcx_model.specs.Graph.{Graph, IsGraph, KeyAtMost, TakesPart, takes_part, elements, key_at, from_at, to_at}

@@ -1,7 +1,7 @@
 -- Lists of elements, by their places.
 use Rattle.std.proofs.Common.{◌≡◌, ℕ, zero, suc, ◌+◌, ◌<◌, ◌⊎◌, inl, inr, List, [], ◌∷◌, ◌++◌, length, slice_index, take, drop, refl, sym, ◌∙◌, ap, subst, arith}
 use Rattle.std.proofs.lemmas.Grind.{take_at_read}
-use Rattle.plcx_meaning.specs.Base.{Each}
+use Rattle.plcx_model.specs.Lists.{Each}
 use Rattle.plcx_model.specs.Networks.{Listed, IsRising}
 use Rattle.plcx_order.proofs.OneOrder.{stays_listed, last_listed, was_listed}
 
