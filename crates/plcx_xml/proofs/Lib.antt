@@ -16,3 +16,5 @@ pub mod TreeRuns
 pub mod Links
 pub mod TreeParts
 pub mod Reached
+pub mod Fronts
+pub mod Ending

@@ -7,16 +7,17 @@
 
 mod building;
 mod error;
-mod laws;
+mod front;
 mod lexing;
 mod look;
+mod reading;
 mod reference;
 mod token;
 mod tokens;
 mod tree;
 mod value;
 
-pub use building::{Build, take_token};
 pub use error::XmlError;
+pub use reading::read_tree;
 pub use token::{Kind, Token};
 pub use tree::{Attribute, Element, Node, Text};
