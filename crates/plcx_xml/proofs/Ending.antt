@@ -30,7 +30,7 @@ use Rattle.plcx_xml.proofs.TokenLaws.{token-again}
 use Rattle.plcx_xml.proofs.TreeRuns.{run_events, root-runs, root-deep}
 use Rattle.plcx_xml.proofs.Links.{run-split, run-any, strict-runs, lenient-runs, run-joined}
 use Rattle.plcx_xml.proofs.Reached.{here-parted, offset-next, mark-offset, front-short, token-none}
-use Rattle.plcx_xml.proofs.Fronts.{front-whole, front-known}
+use Rattle.plcx_xml.proofs.Fronts.{front-known, front-within, front-full}
 
 blank-kind : (k : Kind) (c : Bool) → IsBlankKind k → step below_limit (record { names = []; closed = c }) k ≡ Some (record { names = []; closed = c })
 blank-kind (kind.Start name attributes) c h = absurd h
@@ -135,3 +135,30 @@ stops-here front rest b m r l =
 pub nothing_left : (rest : List ℕ) → length rest ≡ 0 → rest ≡ []
 nothing_left [] h = refl
 nothing_left (x ∷ xs) h = absurd (omega arith)
+
+-- what an error from the tokens says
+pub stops-fails : (bytes text front : List ℕ) (e : XmlError) → (text ≡ bytes) × IsUtf8 bytes → front ≡ front_of text → Stops front e → Fails bytes e
+stops-fails bytes text front e t f s =
+    let own : front ≡ front_of bytes = f ∙ ap front_of t.0 in
+    let within = front-within bytes t.1 in
+    let size : length front ≡ length (front_of bytes) = ap (λ (xs : List ℕ). length xs) own in
+    front-stops bytes front e t.1 own (omega arith) s
+
+pub cut-fails : (bytes text front : List ℕ) (b : Build) → (text ≡ bytes) × IsUtf8 bytes → front ≡ front_of text → length front < length bytes → Reached front [] b → Fails bytes (xml.Token (length front))
+cut-fails bytes text front b t f l m = front-ends bytes front b t.1 (f ∙ ap front_of t.0) l m
+
+-- all characters are known
+whole-front : (bytes text front : List ℕ) (b : Build) → (text ≡ bytes) × IsUtf8 bytes → front ≡ front_of text → length bytes ≤ length front → Reached front [] b → (list_all is_character (chars bytes) ≡ true) × Reached bytes [] b
+whole-front bytes text front b t f l m =
+    let own : front ≡ front_of bytes = f ∙ ap front_of t.0 in
+    let size : length front ≡ length (front_of bytes) = ap (λ (xs : List ℕ). length xs) own in
+    let full = front-full bytes t.1 (omega arith) in
+    (front-known bytes t.1 full, subst (λ (xs : List ℕ). Reached xs [] b) (own ∙ full) m)
+
+pub end-fails : (bytes text front : List ℕ) (b : Build) (e : XmlError) → (text ≡ bytes) × IsUtf8 bytes → front ≡ front_of text → length bytes ≤ length front → Reached front [] b → Ends (state_of b) (length bytes) e → Fails bytes e
+end-fails bytes text front b e t f l m h = let w = whole-front bytes text front b t f l m in ended-fails bytes b e t.1 w.0 w.1 h
+
+pub end-tree : (bytes text front : List ℕ) (b : Build) (root : Element) → (text ≡ bytes) × IsUtf8 bytes → front ≡ front_of text → length bytes ≤ length front → Reached front [] b → b ≡ build.Closed root → IsTreeOf bytes root
+end-tree bytes text front b root t f l m h =
+    let w = whole-front bytes text front b t f l m in
+    closed-tree bytes root t.1 w.0 (subst (Reached bytes []) h w.1)

@@ -1,10 +1,10 @@
 -- The characters of a text before the first that a file may not hold.
-use Rattle.std.proofs.Common.{◌≡◌, ◌<◌, ◌≤◌, ℕ, Bool, true, false, not, List, [], ◌∷◌, ◌++◌, length, take, drop, refl, ap, sym, subst, ◌∙◌, arith, append-nil}
+use Rattle.std.proofs.Common.{◌≡◌, ◌<◌, ◌≤◌, ℕ, Bool, true, false, not, List, [], ◌∷◌, ◌++◌, length, take, drop, refl, ap, sym, subst, ◌∙◌, arith, ◌+◌, append-nil, length-append}
 use Rattle.std.specs.List.{list_all, prefix_len}
 use Rattle.std.specs.Char.{encode_utf8}
 use Rattle.std.specs.Str.{IsUtf8, IsCharBoundary, NoCharPasses, NonePass, chars, encode_utf8_all}
 use Rattle.std.proofs.lemmas.List.{take_at, take-append-drop}
-use Rattle.std.proofs.lemmas.Str.{chars_from_encodes, chars-append, chars_past_char, IsUtf8-take, IsUtf8-drop, encodes-chars, encodes_same}
+use Rattle.std.proofs.lemmas.Str.{chars_from_encodes, chars-append, chars_past_char, IsUtf8-take, IsUtf8-drop, encodes-chars, encodes-append, encodes_same}
 use Rattle.plcx_xml.specs.Character.{is_character, front_of}
 use Rattle.plcx_xml.specs.Grammar.{Stops}
 use Rattle.plcx_xml.proofs.Runs.{prefix_len-again, run-sound}
@@ -59,3 +59,28 @@ front-known bytes u h =
     let cs = chars bytes in
     let same : take (prefix_len is_character cs) cs ≡ cs = encodes_same (take (prefix_len is_character cs) cs) cs (h ∙ sym (encodes-front bytes u)) in
     subst (λ (ds : List ℕ). list_all is_character ds ≡ true) same (run-sound is_character cs).0
+
+abbrev behind-front : List ℕ → List ℕ
+behind-front bytes = encode_utf8_all (drop (prefix_len is_character (chars bytes)) (chars bytes))
+
+front-split : (bytes : List ℕ) → IsUtf8 bytes → front_of bytes ++ behind-front bytes ≡ bytes
+front-split bytes u =
+    let n = prefix_len is_character (chars bytes) in
+    sym (encodes-append (take n (chars bytes)) (drop n (chars bytes))) ∙ (ap encode_utf8_all (take-append-drop n (chars bytes)) ∙ encodes-front bytes u)
+
+front-parted : (bytes : List ℕ) → IsUtf8 bytes → length bytes ≡ length (front_of bytes) + length (behind-front bytes)
+front-parted bytes u = ap (λ (xs : List ℕ). length xs) (sym (front-split bytes u)) ∙ length-append (front_of bytes) (behind-front bytes)
+
+pub front-within : (bytes : List ℕ) → IsUtf8 bytes → length (front_of bytes) ≤ length bytes
+front-within bytes u = let p = front-parted bytes u in omega arith
+
+nothing : (xs : List ℕ) → length xs ≡ 0 → xs ≡ []
+nothing [] h = refl
+nothing (x ∷ xs) h = absurd (omega arith)
+
+-- a front as long as the whole is the whole
+pub front-full : (bytes : List ℕ) → IsUtf8 bytes → length bytes ≤ length (front_of bytes) → front_of bytes ≡ bytes
+front-full bytes u l =
+    let p = front-parted bytes u in
+    let none : behind-front bytes ≡ [] = nothing (behind-front bytes) (omega arith) in
+    sym (append-nil (front_of bytes)) ∙ (ap (λ (xs : List ℕ). front_of bytes ++ xs) (sym none) ∙ front-split bytes u)
