@@ -18,3 +18,5 @@ pub mod TreeParts
 pub mod Reached
 pub mod Fronts
 pub mod Ending
+pub mod OneFile
+pub mod OneTree

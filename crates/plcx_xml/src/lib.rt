@@ -8,6 +8,7 @@
 mod building;
 mod error;
 mod front;
+mod laws;
 mod lexing;
 mod look;
 mod reading;
@@ -18,6 +19,7 @@ mod tree;
 mod value;
 
 pub use error::XmlError;
+pub use laws::{no_tree, one_tree};
 pub use reading::read_tree;
 pub use token::{Kind, Token};
 pub use tree::{Attribute, Element, Node, Text};
