@@ -16,3 +16,7 @@ pub mod TreeRuns
 pub mod Links
 pub mod TreeParts
 pub mod Reached
+pub mod Fronts
+pub mod Ending
+pub mod OneFile
+pub mod OneTree

@@ -42,3 +42,19 @@ Fails bytes (xml.Token at) = IsUtf8 bytes × IsTokenPlace bytes at
 Fails bytes (xml.Nesting at) = (ts : List Token) × HasTokens bytes ts × (IsFirstRefused any_depth ts at ⊎ (IsUnended ts × (at ≡ length bytes)))
 Fails bytes (xml.TooDeep at) = (ts : List Token) × HasTokens bytes ts × (run any_depth ts outset ≡ Some (settled [])) × IsFirstRefused below_limit ts at
 Fails bytes xml.NoMemory = ⊤
+
+-- Where tokens stop in these bytes, all of whose characters a file may hold. This serves proofs alone.
+pub record StopsAt (front : List ℕ) (at : ℕ) : Type 0 where
+  pub tokens : List Token
+  pub rest : List ℕ
+  pub begins : BeginsWith front tokens rest
+  pub here : at + length rest ≡ length front
+  pub none : (t : Token) (after : List ℕ) → StandsAt at rest t after → ⊥
+  pub more : 0 < length rest
+
+abbrev pub Stops : List ℕ → XmlError → Type 0
+Stops front (xml.NotUtf8 at) = ⊥
+Stops front (xml.Token at) = StopsAt front at
+Stops front (xml.Nesting at) = ⊥
+Stops front (xml.TooDeep at) = ⊥
+Stops front xml.NoMemory = ⊤

@@ -4,10 +4,11 @@ ghost use Rattle.std.specs.List.{flat_map, list_all};
 ghost use Rattle.plcx_xml.specs.Character.{is_space};
 ghost use Rattle.plcx_xml.specs.Events.{Begin, Chars, End, events_of, events_of_element, kind_events, with_event};
 ghost use Rattle.plcx_xml.specs.Nesting.{settled, begin_step, end_step, text_step, step, any_depth, below_limit};
-ghost use Rattle.plcx_xml.specs.Built.{Going, Broken, Deep, State, opened, frame_names, open_place, state_of, names_of, next, went, held, with_text, with_token, built_events, Keeps};
-ghost use Rattle.plcx_xml.specs.declared.building.Build.TheVariants as build;
+ghost use Rattle.plcx_xml.specs.Built.{Going, Broken, Deep, State, opened, frame_names, open_place, state_of, names_of, next, went, held, with_text, with_token, built_events, Keeps, Ends};
+ghost use Rattle.plcx_xml.specs.declared.building.Build.TheVariants as built;
 ghost use Rattle.plcx_xml.specs.declared.token.Kind.TheVariants as kind;
 
+use crate::error::XmlError;
 use crate::lexing::is_blank;
 use crate::token::{Kind, Token};
 use crate::tree::{Attribute, Element, Node, Text};
@@ -223,7 +224,7 @@ fn empty(
 
 /// Behind the root only blank text, comments and instructions may follow.
 fn take_behind(root: Element, token: Token) -> Build
-    ensures state { state_of result ≡ next (state_of (build.Closed root)) token.kind token.span.start }
+    ensures state { state_of result ≡ next (state_of (built.Closed root)) token.kind token.span.start }
     ensures events { Keeps result (events_of_element root) }
 {
     let Token { kind, span } = token;
@@ -318,5 +319,23 @@ pub fn take_token(alloc: Global, build: Build, token: Token) -> Result<Build, Al
         Build::Closed(root) => Ok(take_behind(root, token)),
         Build::Deep { names, at } => take_deep(names, at, token),
         Build::Broken { at } => Ok(Build::Broken { at }),
+    }
+}
+
+/// The root, if it is closed, in a file of that length.
+pub fn finish(build: Build, last: u64) -> Result<Element, XmlError>
+    ensures { MatchResult result (λ root. build ≡ built.Closed root) (Ends (state_of build) last) }
+{
+    match build {
+        Build::Closed(root) => Ok(root),
+        Build::Open(_) => Err(XmlError::Nesting { at: last }),
+        Build::Deep { names, at } => {
+            if names.is_empty() {
+                Err(XmlError::TooDeep { at })
+            } else {
+                Err(XmlError::Nesting { at: last })
+            }
+        }
+        Build::Broken { at } => Err(XmlError::Nesting { at }),
     }
 }
