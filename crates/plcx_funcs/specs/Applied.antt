@@ -82,6 +82,7 @@ truth b = value ty.Bool (if b then pos 1 else pos 0)
 abbrev pub greater : Value → Value → Value
 greater a b = if int_lt a.n b.n then b else a
 
+-- the lesser of two
 abbrev pub lesser : Value → Value → Value
 lesser a b = if int_lt b.n a.n then b else a
 
@@ -133,6 +134,7 @@ turned t n = (bounds_of t).high -ℤ n
 abbrev pub shifted_left : ℕ → ℕ → ℕ → ℕ
 shifted_left bits n by = if nat_le bits by then 0 else (n * 2 ^ by) % 2 ^ bits
 
+-- the same to the right
 abbrev pub shifted_right : ℕ → ℕ → ℕ → ℕ
 shifted_right bits n by = if nat_le bits by then 0 else n / 2 ^ by
 
@@ -140,6 +142,7 @@ shifted_right bits n by = if nat_le bits by then 0 else n / 2 ^ by
 abbrev pub rotated_left : ℕ → ℕ → ℕ → ℕ
 rotated_left bits n by = (n * 2 ^ (by % bits)) % 2 ^ bits + n / 2 ^ (bits - by % bits)
 
+-- the same to the right
 abbrev pub rotated_right : ℕ → ℕ → ℕ → ℕ
 rotated_right bits n by = n / 2 ^ (by % bits) + (n % 2 ^ (by % bits)) * 2 ^ (bits - by % bits)
 

@@ -1,3 +1,4 @@
+-- The standard functions: their table, names and pins, and what they give.
 pub mod Types
 pub mod Table
 pub mod Names

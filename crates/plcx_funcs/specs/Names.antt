@@ -32,7 +32,8 @@ pub record NamesFunction (word : List ℕ) (g : Func) : Type 0 where
 
 -- the functions that are no conversions
 abbrev pub plain_functions : List Func
-plain_functions = f.Add ∷ f.Mul ∷ f.Sub ∷ f.Div ∷ f.Mod ∷ f.Abs ∷ f.Move ∷ f.And ∷ f.Or ∷ f.Xor ∷ f.Not ∷ f.Shl ∷ f.Shr ∷ f.Rol ∷ f.Ror ∷ f.Sel ∷ f.Max ∷ f.Min ∷ f.Limit ∷ f.Mux ∷ f.Gt ∷ f.Ge ∷ f.Eq ∷ f.Le ∷ f.Lt ∷ f.Ne ∷ []
+plain_functions = f.Add ∷ f.Mul ∷ f.Sub ∷ f.Div ∷ f.Mod ∷ f.Abs ∷ f.Move ∷ f.And ∷ f.Or ∷ f.Xor ∷ f.Not ∷ f.Shl ∷ f.Shr ∷ f.Rol ∷ f.Ror
+    ∷ f.Sel ∷ f.Max ∷ f.Min ∷ f.Limit ∷ f.Mux ∷ f.Gt ∷ f.Ge ∷ f.Eq ∷ f.Le ∷ f.Lt ∷ f.Ne ∷ []
 
 -- the function of these whose name is the word, whatever the case of its letters
 abbrev pub plain_among : List Func → List ℕ → Option Func

@@ -73,9 +73,11 @@ class_at (inputs.Converted from) i = class.Fixed from
 
 -- ---- the pins of a function
 
+-- the least number of inputs of a function
 abbrev pub least_inputs : Func → ℕ
 least_inputs g = least (row_of g).inputs
 
+-- the greatest number of inputs of a function
 abbrev pub most_inputs : Func → ℕ
 most_inputs g = most (row_of g).inputs
 
@@ -87,12 +89,15 @@ can_have g inputs = nat_le (least_inputs g) inputs && nat_le inputs (most_inputs
 abbrev pub group_types : Func → Allowed
 group_types g = (row_of g).allowed
 
+-- the letters of the name of an input
 abbrev pub input_letters : Func → ℕ → List ℕ
 input_letters g i = letters (row_of g).inputs i
 
+-- the number behind these letters
 abbrev pub input_number : Func → ℕ → Option ℕ
 input_number g i = number (row_of g).inputs i
 
+-- the class of an input
 abbrev pub input_class : Func → ℕ → Class
 input_class g i = class_at (row_of g).inputs i
 

@@ -10,12 +10,14 @@ use Rattle.plcx_funcs.specs.declared.pins.Class.TheVariants as class
 use Rattle.plcx_funcs.specs.declared.table.Inputs.{Inputs}
 use Rattle.plcx_funcs.specs.declared.table.Inputs.TheVariants as inputs
 
+-- a row of the table: a name, the inputs, the types of the group, and the class of OUT
 pub record FuncRow : Type 0 where
   pub name : List ℕ
   pub inputs : Inputs
   pub allowed : Allowed
   pub out : Class
 
+-- a row by its parts
 abbrev pub row : List ℕ → Inputs → Allowed → Class → FuncRow
 row name inputs allowed out = record { name = name; inputs = inputs; allowed = allowed; out = out }
 

@@ -1,3 +1,4 @@
+//! The standard functions.
 use plcx_types::Ty;
 
 /// A standard function. A conversion has two different types.

@@ -26,6 +26,7 @@ pub enum Inputs {
     Converted { from: Ty },
 }
 
+/// A row: the name in the table, the inputs, the types of the group, and the class of OUT.
 #[derive(Clone, Copy)]
 pub struct FuncRow {
     pub name: &'static str,

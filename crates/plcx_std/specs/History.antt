@@ -132,7 +132,10 @@ shown_after now rest = let start = unwrap_or (first_time rest) now in shown_at_r
 -- TOF
 abbrev pub tof_shows : List TimerCall → Shown
 tof_shows [] = record { output = false; elapsed = pos 0 }
-tof_shows (c ∷ earlier) = if c.input then record { output = true; elapsed = pos 0 } else if list_any (λ d. d.input) earlier then shown_after c.time (last_run (λ d. not d.input) (c ∷ earlier)) else record { output = false; elapsed = pos 0 }
+tof_shows (c ∷ earlier) =
+    if c.input then record { output = true; elapsed = pos 0 }
+    else if list_any (λ d. d.input) earlier then shown_after c.time (last_run (λ d. not d.input) (c ∷ earlier))
+    else record { output = false; elapsed = pos 0 }
 
 -- at each of some calls, the time since a start is below the call's limit
 abbrev pub all_within : ℤ → List TimerCall → Bool

@@ -23,6 +23,7 @@ kind_name FTrig = codes "F_TRIG"
 abbrev pub NamesKind : List ℕ → StdKind → Type 0
 NamesKind word k = in_lower_case word ≡ in_lower_case (kind_name k)
 
+-- all blocks, each once
 abbrev pub all_kinds : List StdKind
 all_kinds = Ton ∷ Tof ∷ Tp ∷ Ctu ∷ Ctd ∷ Ctud ∷ Sr ∷ Rs ∷ RTrig ∷ FTrig ∷ []
 

@@ -1,3 +1,4 @@
+-- The standard blocks: their names and pins, one call, and what lists of calls show.
 pub mod Kind
 pub mod Step
 pub mod Pins

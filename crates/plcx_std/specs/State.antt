@@ -9,6 +9,7 @@ use Rattle.plcx_std.specs.Step.{ton, tof, tp, ctu, ctd, ctud, sr, rs, r_trig, f_
 use Rattle.plcx_std.specs.Calls.{default_on_delay, default_timer, default_up, default_down, default_up_down, default_latch, default_edge}
 use Rattle.plcx_std.specs.Values.{on_delay_values, timer_values, up_values, down_values, up_down_values, latch_values, edge_values}
 
+-- the kind of a block by its leaves
 abbrev pub kind_of : StdState → StdKind
 kind_of (state.Ton l) = kind.Ton
 kind_of (state.Tof l) = kind.Tof

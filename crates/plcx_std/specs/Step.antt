@@ -16,6 +16,7 @@ since start now = if int_lt (pos 0) (now -ℤ start) then now -ℤ start else po
 abbrev pub limit : ℤ → ℤ
 limit preset = if int_lt (pos 0) preset then preset else pos 0
 
+-- the lesser of two
 abbrev pub lesser : ℤ → ℤ → ℤ
 lesser a b = if int_lt a b then a else b
 
@@ -27,6 +28,7 @@ on_started l now = if l.running then l else record l { running = true; start = n
 abbrev pub on_timed : OnDelay → ℤ → OnDelay
 on_timed l now = record l { output = int_le (limit l.preset) (since l.start now); elapsed = lesser (since l.start now) (limit l.preset) }
 
+-- TON
 abbrev pub ton : OnDelay → ℤ → OnDelay
 ton l now = if l.input then on_timed (on_started l now) now else record l { running = false; start = pos 0; output = false; elapsed = pos 0 }
 
@@ -36,8 +38,14 @@ off_started l now = if l.memory then record l { memory = false; running = true; 
 
 -- TOF: within a run Q stays until the limit is reached, which ends the run
 abbrev pub off_timed : Timer → ℤ → Timer
-off_timed l now = if l.running then (if int_lt (since l.start now) (limit l.preset) then record l { output = true; elapsed = since l.start now } else record l { output = false; elapsed = limit l.preset; running = false }) else record l { output = false }
+off_timed l now =
+    if l.running
+    then (if int_lt (since l.start now) (limit l.preset)
+    then record l { output = true; elapsed = since l.start now }
+    else record l { output = false; elapsed = limit l.preset; running = false })
+    else record l { output = false }
 
+-- TOF
 abbrev pub tof : Timer → ℤ → Timer
 tof l now = if l.input then record l { memory = true; running = false; start = pos 0; output = true; elapsed = pos 0 } else off_timed (off_started l now) now
 
@@ -53,6 +61,7 @@ pulse_begun l now = if l.input && not l.memory && not l.running then (if int_lt 
 abbrev pub pulse_shown : Timer → ℤ → Timer
 pulse_shown l now = if l.running then record l { output = true; elapsed = since l.start now } else record l { output = false; elapsed = if l.input then l.elapsed else pos 0 }
 
+-- TP
 abbrev pub tp : Timer → ℤ → Timer
 tp l now = record (pulse_shown (pulse_begun (pulse_ended l now) now) now) { memory = l.input }
 
@@ -68,15 +77,19 @@ one_more count = if int_lt count (pos 32767) then count +ℤ pos 1 else count
 abbrev pub one_less : ℤ → ℤ
 one_less count = if int_lt (negsuc 32767) count then count -ℤ pos 1 else count
 
+-- CV of a CTU
 abbrev pub count_of_ctu : UpCounter → ℤ
 count_of_ctu l = if l.reset then pos 0 else if rises l.up l.memory then one_more l.count else l.count
 
+-- CTU
 abbrev pub ctu : UpCounter → UpCounter
 ctu l = record l { count = count_of_ctu l; output = int_le l.preset (count_of_ctu l); memory = l.up }
 
+-- CV of a CTD
 abbrev pub count_of_ctd : DownCounter → ℤ
 count_of_ctd l = if l.load then l.preset else if rises l.down l.memory then one_less l.count else l.count
 
+-- CTD
 abbrev pub ctd : DownCounter → DownCounter
 ctd l = record l { count = count_of_ctd l; output = int_le (count_of_ctd l) (pos 0); memory = l.down }
 
@@ -84,20 +97,26 @@ ctd l = record l { count = count_of_ctd l; output = int_le (count_of_ctd l) (pos
 abbrev pub count_by_edges : Bool → Bool → ℤ → ℤ
 count_by_edges up down count = if up && down then count else if up then one_more count else if down then one_less count else count
 
+-- CV of a CTUD
 abbrev pub count_of_ctud : UpDownCounter → ℤ
 count_of_ctud l = if l.reset then pos 0 else if l.load then l.preset else count_by_edges (rises l.up l.memory_up) (rises l.down l.memory_down) l.count
 
+-- CTUD
 abbrev pub ctud : UpDownCounter → UpDownCounter
 ctud l = record l { count = count_of_ctud l; output_up = int_le l.preset (count_of_ctud l); output_down = int_le (count_of_ctud l) (pos 0); memory_up = l.up; memory_down = l.down }
 
+-- SR
 abbrev pub sr : Latch → Latch
 sr l = record l { output = l.set || (not l.reset && l.output) }
 
+-- RS
 abbrev pub rs : Latch → Latch
 rs l = record l { output = not l.reset && (l.set || l.output) }
 
+-- R_TRIG
 abbrev pub r_trig : Edge → Edge
 r_trig l = record l { output = l.clock && not l.memory; memory = l.clock }
 
+-- F_TRIG
 abbrev pub f_trig : Edge → Edge
 f_trig l = record l { output = not l.clock && not l.memory; memory = not l.clock }

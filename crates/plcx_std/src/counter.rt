@@ -1,3 +1,4 @@
+//! CTU, CTD and CTUD.
 ghost use Rattle.std.specs.Prelude.{◌≡◌};
 ghost use Rattle.plcx_std.specs.Step.{rises, one_more, one_less, ctu, ctd, ctud, count_of_ctud};
 

@@ -1,3 +1,4 @@
+//! R_TRIG and F_TRIG.
 ghost use Rattle.std.specs.Prelude.{◌≡◌};
 ghost use Rattle.plcx_std.specs.Step.{r_trig, f_trig};
 

@@ -1,3 +1,4 @@
+//! The time that has gone by, and presets.
 ghost use Rattle.std.specs.Prelude.{◌≡◌, ◌≤ℤ◌, pos};
 ghost use Rattle.plcx_std.specs.Step.{since, limit, lesser};
 

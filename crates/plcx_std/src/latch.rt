@@ -1,3 +1,4 @@
+//! SR and RS.
 ghost use Rattle.std.specs.Prelude.{◌≡◌};
 ghost use Rattle.plcx_std.specs.Step.{sr, rs};
 

@@ -1,3 +1,4 @@
+//! Laws of the definitions, each on a function of its own.
 ghost use Rattle.plcx_std.specs.declared.state.StdState.{StdState};
 ghost use Rattle.plcx_std.specs.Pins.{pins};
 ghost use Rattle.plcx_std.specs.State.{kind_of, values};

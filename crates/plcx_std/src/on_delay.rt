@@ -1,3 +1,4 @@
+//! TON.
 ghost use Rattle.std.specs.Prelude.{◌≡◌};
 ghost use Rattle.plcx_std.specs.Step.{on_started, on_timed, ton};
 

@@ -1,3 +1,4 @@
+//! The leaves of the blocks as pins.
 ghost use Rattle.std.specs.Prelude.{◌≡◌, map};
 ghost use Rattle.plcx_std.specs.Pins.{shown, pins};
 

@@ -1,3 +1,4 @@
+//! The state of a block: its leaves, and one call.
 ghost use Rattle.std.specs.Prelude.{◌≡◌, ◌<◌, Some, IfSome, slice_get, slice_set, length};
 ghost use Rattle.plcx_std.specs.State.{kind_of, default_state, values, stepped};
 

@@ -1,3 +1,4 @@
+//! TOF and TP.
 ghost use Rattle.std.specs.Prelude.{◌≡◌, ◌<ℤ◌, true};
 ghost use Rattle.plcx_std.specs.Step.{since, limit, off_timed, off_started, tof, pulse_ended, pulse_begun, pulse_shown, tp};
 

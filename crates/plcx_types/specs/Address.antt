@@ -9,6 +9,7 @@ pub data ArePlaces : ℕ → List ℕ → Type 0 where
   last : {most : ℕ} {digits : List ℕ} → AreDigits 9 digits → ArePlaces (suc most) digits
   more : {most : ℕ} {digits rest : List ℕ} → AreDigits 9 digits → ArePlaces most rest → ArePlaces (suc most) (digits ++ (codes "." ++ rest))
 
+-- the byte is one of these letters
 abbrev pub is_one_of : List ℕ → ℕ → Bool
 is_one_of letters b = list_any (nat_eq b) letters
 

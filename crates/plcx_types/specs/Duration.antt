@@ -5,6 +5,7 @@ use Rattle.plcx_types.specs.Numeral.{is_digit, number_from}
 use Rattle.plcx_types.specs.declared.duration.TimeUnit.{TimeUnit}
 use Rattle.plcx_types.specs.declared.duration.TimeUnit.TheVariants as unit
 
+-- how a unit is written
 abbrev pub letters_of : TimeUnit → List ℕ
 letters_of unit.Day = codes "d"
 letters_of unit.Hour = codes "h"
@@ -12,6 +13,7 @@ letters_of unit.Minute = codes "m"
 letters_of unit.Second = codes "s"
 letters_of unit.Millisecond = codes "ms"
 
+-- how long a unit is
 abbrev pub milliseconds_of : TimeUnit → ℕ
 milliseconds_of unit.Day = 86400000
 milliseconds_of unit.Hour = 3600000
@@ -29,6 +31,7 @@ pub record AreDigits (most : ℕ) (digits : List ℕ) : Type 0 where
   pub some : 1 ≤ length digits
   pub few : length digits ≤ most
 
+-- the number of decimal digits
 abbrev pub number : List ℕ → ℕ
 number digits = number_from 10 0 digits
 

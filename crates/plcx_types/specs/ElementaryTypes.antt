@@ -12,12 +12,14 @@ unsigned bits = record { low = pos 0; high = pos (2 ^ bits - 1) }
 abbrev pub signed : ℕ → Bounds
 signed bits = record { low = negsuc (2 ^ (bits - 1) - 1); high = pos (2 ^ (bits - 1) - 1) }
 
+-- a row of the table: a name, how many bits a number takes, and the numbers there are
 pub record TypeRow : Type 0 where
   -- as it is printed
   pub name : List ℕ
   pub bits : ℕ
   pub bounds : Bounds
 
+-- a row by its name, its bits, and how the numbers go by the bits
 abbrev pub row : List ℕ → ℕ → (ℕ → Bounds) → TypeRow
 row name bits numbers = record { name = name; bits = bits; bounds = numbers bits }
 

@@ -1,3 +1,4 @@
+-- What is said of names, types, values and literals, and the limits.
 pub mod Limits
 pub mod Name
 pub mod IdentError

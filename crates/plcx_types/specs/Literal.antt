@@ -11,6 +11,7 @@ use Rattle.plcx_types.specs.Value.{Value}
 use Rattle.plcx_types.specs.Numeral.{IsWholeNumber}
 use Rattle.plcx_types.specs.Duration.{IsTime}
 
+-- the value of a type and a number
 abbrev pub value : Ty → ℤ → Value
 value t n = record { ty = t; n = n }
 
@@ -18,6 +19,7 @@ value t n = record { ty = t; n = n }
 abbrev pub type_word : Ty → List ℕ
 type_word t = in_lower_case (type_name t)
 
+-- the words that are numbers of BOOL
 pub data IsTruth : List ℕ → ℤ → Type 0 where
   truth : IsTruth (codes "true") (pos 1)
   falsehood : IsTruth (codes "false") (pos 0)

@@ -4,6 +4,7 @@ use Rattle.std.specs.Char.{to_ascii_lowercase, to_ascii_uppercase}
 use Rattle.std.specs.List.{list_all}
 use Rattle.plcx_types.specs.Limits.{max_name_bytes}
 
+-- the last is one of the first two or between them
 abbrev pub is_between : ℕ → ℕ → ℕ → Bool
 is_between low high n = nat_le low n && nat_le n high
 

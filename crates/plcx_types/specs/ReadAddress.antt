@@ -15,13 +15,16 @@ abbrev pub ends_or : (List ℕ → Bool) → List ℕ → Bool
 ends_or passes [] = true
 ends_or passes (b ∷ bs) = goes_on passes (behind (codes ".") (b ∷ bs))
 
+-- 1 to 9 of them
 abbrev pub are_few : List ℕ → Bool
 are_few digits = nat_le 1 (length digits) && nat_le (length digits) 9
 
+-- 1 to so many numbers of 1 to 9 digits with points between them
 unfoldable pub are_places : ℕ → List ℕ → Bool
 are_places zero text = false
 are_places (suc most) text = are_few (front (is_digit 10) text) && ends_or (are_places most) (back (is_digit 10) text)
 
+-- `%`, an area, perhaps a size, and up to 8 numbers
 unfoldable pub is_address_form : List ℕ → Bool
 is_address_form (mark ∷ area ∷ next ∷ rest) = nat_eq mark 37 && is_one_of (codes "iqm") area && (if is_one_of (codes "xbwdl") next then are_places 8 rest else are_places 8 (next ∷ rest))
 is_address_form text = false

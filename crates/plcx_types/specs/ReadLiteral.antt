@@ -18,9 +18,11 @@ use Rattle.plcx_types.specs.Reading.{behind, choose, whole, time}
 abbrev pub is_within : Ty → ℤ → Bool
 is_within t n = le_z (bounds_of t).low n && le_z n (bounds_of t).high
 
+-- the number of a word of BOOL
 abbrev pub truth : List ℕ → Option ℤ
 truth text = if bytes_eq text (codes "true") then Some (pos 1) else (if bytes_eq text (codes "false") then Some (pos 0) else None)
 
+-- the first, or else the second
 abbrev pub or_else : {A : Type 0} → Option A → Option A → Option A
 or_else None other = other
 or_else (Some x) other = Some x
@@ -33,9 +35,11 @@ number_behind t text = if same_ty t ty.Time then time text else (if same_ty t ty
 unfoldable pub of_type : Ty → ℤ → Option Literal
 of_type t n = if is_within t n then Some (Typed (value t n)) else None
 
+-- a literal of a type by what stands behind its name
 abbrev pub typed : Ty → List ℕ → Option Literal
 typed t text = option_and_then (of_type t) (number_behind t text)
 
+-- what stands behind the name of a type and `#`
 abbrev pub behind_name : Ty → List ℕ → Option (List ℕ)
 behind_name t text = option_and_then (behind (codes "#")) (behind (type_word t) text)
 
@@ -44,13 +48,16 @@ unfoldable pub typed_or_whole : List Ty → List ℕ → Option Literal
 typed_or_whole [] text = option_map Whole (whole text)
 typed_or_whole (t ∷ ts) text = choose (behind_name t text) (typed t) (typed_or_whole ts text)
 
+-- a literal with T before it, or another one but TRUE and FALSE
 unfoldable pub timed_or_other : List ℕ → Option Literal
 timed_or_other text = choose (behind (codes "t#") text) (typed ty.Time) (typed_or_whole all_types text)
 
+-- a literal of BOOL where there is a word of it, or another one
 abbrev pub truth_or : Option ℤ → Option Literal → Option Literal
 truth_or None other = other
 truth_or (Some n) other = of_type ty.Bool n
 
+-- a literal
 unfoldable pub literal_of : List ℕ → Option Literal
 literal_of text = truth_or (truth text) (timed_or_other text)
 

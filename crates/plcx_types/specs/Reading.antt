@@ -25,8 +25,12 @@ with_digit base n digit = if nat_le (n * base + digit) greatest then Some (n * b
 -- the number of a numeral behind digits that stand for n
 unfoldable pub numeral_from : ℕ → ℕ → Bool → List ℕ → Option ℕ
 numeral_from base n seen [] = if seen then Some n else None
-numeral_from base n seen (b ∷ bs) = if is_digit base b then option_and_then (λ m. numeral_from base m true bs) (with_digit base n (digit_value b)) else (if seen && nat_eq b 95 then numeral_from base n false bs else None)
+numeral_from base n seen (b ∷ bs) =
+    if is_digit base b
+    then option_and_then (λ m. numeral_from base m true bs) (with_digit base n (digit_value b))
+    else (if seen && nat_eq b 95 then numeral_from base n false bs else None)
 
+-- the number of a numeral
 abbrev pub numeral : ℕ → List ℕ → Option ℕ
 numeral base text = numeral_from base 0 false text
 
@@ -35,9 +39,11 @@ abbrev pub choose : {A : Type 0} → Option (List ℕ) → (List ℕ → Option 
 choose None read other = other
 choose (Some rest) read other = read rest
 
+-- a number without a sign
 abbrev pub positive : ℕ → List ℕ → Option ℤ
 positive base text = option_map pos (numeral base text)
 
+-- a number behind `-`
 abbrev pub negative : List ℕ → Option ℤ
 negative text = option_map (λ n. neg_ℤ (pos n)) (numeral 10 text)
 
@@ -45,6 +51,7 @@ negative text = option_map (λ n. neg_ℤ (pos n)) (numeral 10 text)
 unfoldable pub unsigned_whole : List ℕ → Option ℤ
 unsigned_whole text = choose (behind (codes "2#") text) (positive 2) (choose (behind (codes "8#") text) (positive 8) (choose (behind (codes "16#") text) (positive 16) (positive 10 text)))
 
+-- a whole number, with or without a sign or a base
 unfoldable pub whole : List ℕ → Option ℤ
 whole text = choose (behind (codes "+") text) (positive 10) (choose (behind (codes "-") text) negative (unsigned_whole text))
 
@@ -53,10 +60,12 @@ abbrev pub front : (ℕ → Bool) → List ℕ → List ℕ
 front passes [] = []
 front passes (b ∷ bs) = if passes b then b ∷ front passes bs else []
 
+-- those from the first that fails a test on
 abbrev pub back : (ℕ → Bool) → List ℕ → List ℕ
 back passes [] = []
 back passes (b ∷ bs) = if passes b then back passes bs else b ∷ bs
 
+-- a letter in lower case
 abbrev pub is_letter : ℕ → Bool
 is_letter b = is_between 97 122 b
 
@@ -67,13 +76,16 @@ pub record Part : Type 0 where
   pub letters : List ℕ
   pub rest : List ℕ
 
+-- a part by its digits, its decimals, and the letters at the front of what is left
 abbrev pub with_letters : List ℕ → Option (List ℕ) → List ℕ → Part
 with_letters digits decimals text = record { digits = digits; decimals = decimals; letters = front is_letter text; rest = back is_letter text }
 
+-- a part by its digits, what stands behind them, and what stands behind a point there
 abbrev pub with_point : List ℕ → List ℕ → Option (List ℕ) → Part
 with_point digits text None = with_letters digits None text
 with_point digits text (Some decimals) = with_letters digits (Some (front (is_digit 10) decimals)) (back (is_digit 10) decimals)
 
+-- the part at the front of a text
 unfoldable pub part_at : List ℕ → Part
 part_at text = with_point (front (is_digit 10) text) (back (is_digit 10) text) (behind (codes ".") (back (is_digit 10) text))
 
@@ -88,7 +100,8 @@ exact scaled scale = if nat_eq (scaled % scale) 0 then Some (scaled / scale) els
 -- the milliseconds of a last part
 unfoldable pub last_part : TimeUnit → List ℕ → Option (List ℕ) → Option ℕ
 last_part u digits None = option_map (λ n. n * milliseconds_of u) (count 20 digits)
-last_part u digits (Some decimals) = option_and_then (λ n. option_and_then (λ m. exact ((n * 10 ^ length decimals + m) * milliseconds_of u) (10 ^ length decimals)) (count 9 decimals)) (count 20 digits)
+last_part u digits (Some decimals) =
+    option_and_then (λ n. option_and_then (λ m. exact ((n * 10 ^ length decimals + m) * milliseconds_of u) (10 ^ length decimals)) (count 9 decimals)) (count 20 digits)
 
 -- the milliseconds of a part with others behind it
 unfoldable pub with_others : TimeUnit → List ℕ → Option (List ℕ) → Option ℕ → Option ℕ
@@ -98,6 +111,7 @@ with_others u digits decimals others = if is_some decimals then None else option
 abbrev pub behind_gap : List ℕ → List ℕ
 behind_gap text = unwrap_or (behind (codes "_") text) text
 
+-- nothing is left
 abbrev pub is_nil : List ℕ → Bool
 is_nil [] = true
 is_nil (b ∷ bs) = false
@@ -106,7 +120,8 @@ is_nil (b ∷ bs) = false
 unfoldable pub parts : List TimeUnit → List ℕ → Option ℕ
 parts [] text = None
 parts (u ∷ us) text = if bytes_eq (part_at text).letters (letters_of u)
-    then (if is_nil (part_at text).rest then last_part u (part_at text).digits (part_at text).decimals else with_others u (part_at text).digits (part_at text).decimals (parts us (behind_gap (part_at text).rest)))
+    then (if is_nil (part_at text).rest then last_part u (part_at text).digits (part_at text).decimals
+    else with_others u (part_at text).digits (part_at text).decimals (parts us (behind_gap (part_at text).rest)))
     else parts us text
 
 -- a length of time

@@ -6,6 +6,7 @@ use Rattle.plcx_types.specs.declared.ty.Ty.{Ty}
 use Rattle.plcx_types.specs.declared.ty.Ty.TheVariants as ty
 use Rattle.plcx_types.specs.ElementaryTypes.{row_of}
 
+-- all types, each once
 abbrev pub all_types : List Ty
 all_types = ty.Bool ∷ ty.Byte ∷ ty.Word ∷ ty.Dword ∷ ty.Lword ∷ ty.Sint ∷ ty.Int ∷ ty.Dint ∷ ty.Lint ∷ ty.Usint ∷ ty.Uint ∷ ty.Udint ∷ ty.Ulint ∷ ty.Time ∷ []
 

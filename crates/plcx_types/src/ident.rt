@@ -1,3 +1,4 @@
+//! Names.
 ghost use Rattle.std.specs.Prelude.{◌≡◌, ◌↔◌, IsTrue, IfOk, MatchResult};
 ghost use Rattle.std.specs.List.{list_all};
 ghost use Rattle.plcx_types.specs.Name.{is_identifier, is_first_byte, is_next_byte, in_lower_case};
