@@ -2,7 +2,7 @@
 use Rattle.std.proofs.Common.{◌≡◌, ◌≢◌, ℕ, suc, ◌+◌, ◌≤◌, ◌<◌, ◌^◌, inl, inr, Bool, true, false, ◌||◌, ◌&&◌, List, [], ◌∷◌, ◌++◌, Some, None, map, length, nat_eq, refl, sym, ap, ◌∙◌, subst, append-nil, arith}
 use Rattle.std.specs.List.{Contains, flat_map, sum_by, list_any}
 use Rattle.std.specs.Str.{bytes_eq}
-use Rattle.std.proofs.lemmas.Bool.{or_cases, or_left, or_right, cond-true, cond-false, cases_Bool, and_parts, eqb-true, both_ways}
+use Rattle.std.proofs.lemmas.Bool.{or_cases, or_left, or_right, or_from, cond-true, cond-false, cases_Bool, and_parts, eqb-true, both_ways}
 use Rattle.std.proofs.lemmas.Int.{ints}
 use Rattle.std.proofs.lemmas.Slice.Eq.{bytes_eq-Decides}
 use Rattle.std.proofs.lemmas.List.{length-map}
@@ -15,10 +15,10 @@ use Rattle.plcx_meaning.specs.Tree.{Local, Input, Plain, Constant, Declaration}
 use Rattle.plcx_meaning.specs.Layout as layout
 use Rattle.plcx_meaning.specs.Layout.{variable, variables_of, variable_named, Scope, Leaf, variable_leaves, leaves, layout}
 use Rattle.plcx_meaning.specs.Diagram as diagram
-use Rattle.plcx_meaning.specs.Diagram.{Port, port}
+use Rattle.plcx_meaning.specs.Diagram.{Port, port, links_of, link_reads_back}
 use Rattle.plcx_meaning.specs.Evaluate.{scope_of}
 use Rattle.plcx_meaning.specs.Address.{AddressFits}
-use Rattle.plcx_meaning.specs.Fits.{IsGoodName, IsVariable, CanBeWritten, variable_parts, parts, Standing, LinkFits, KindFits, fixed_by, is_fresh, ElementsFit, PortsFit, VariableFits, PouFits, Nests, ProjectFits}
+use Rattle.plcx_meaning.specs.Fits.{IsGoodName, IsVariable, CanBeWritten, variable_parts, parts, Standing, LinkFits, KindFits, fixed_by, is_fresh, ElementsFit, PortsFit, VariableFits, PouFits, PouNests, ProjectFits}
 use Rattle.plcx_first_model.specs.declared.project.Kind.{Kind}
 use Rattle.plcx_first_model.specs.declared.project.Kind.TheVariants as kind
 use Rattle.plcx_first_model.specs.declared.project.Connection.{Connection}
@@ -170,9 +170,19 @@ elements_fit p ns (e ∷ es) done wired body own order carried apart =
           (carried_on p e e.kind done wired (is_input_there p e body there) carried) (apart_on p e e.kind es wired once apart),
     )
 
-ports_fit : (p : Pou) (id : ℕ) (k : Kind) → id < 2 ^ 64 → PortsFit (record { id = id; kind = kind_of p k; fed = [] })
-ports_fit p id (kind.In text) small = record { small = small; pins = refl; fed = tt; distinct = refl; names = ((refl, omega arith), tt) }
-ports_fit p id (kind.Out text input) small = record { small = small; pins = refl; fed = tt; distinct = refl; names = tt }
+-- nothing feeds back
+reads_nothing : (p : Pou) (id : ℕ) (pin : List ℕ) (k : Kind) → list_any (link_reads_back id pin) (links_of (kind_of p k)) ≡ false
+reads_nothing p id pin (kind.In text) = refl
+reads_nothing p id pin (kind.Out text input) = refl
+
+nothing_fed : (p : Pou) (id : ℕ) (pin : List ℕ) (es : List Element) → list_any (λ (e : diagram.DiagramElement). list_any (link_reads_back id pin) (links_of e.kind)) (map (element_of p) es) ≡ false
+nothing_fed p id pin [] = refl
+nothing_fed p id pin (e ∷ es) = or_from _ _ (reads_nothing p id pin e.kind) (nothing_fed p id pin es)
+
+ports_fit : (p : Pou) (ns : List (List Element)) (id : ℕ) (k : Kind) → id < 2 ^ 64 → PortsFit (diagram_of p ns) (record { id = id; kind = kind_of p k; fed = [] })
+ports_fit p ns id (kind.In text) small =
+    record { small = small; pins = refl; fed = sym (cond-false _ (port [] ty.Bool ∷ []) [] (nothing_fed p id [] p.elements)); names = ((refl, omega arith), tt) }
+ports_fit p ns id (kind.Out text input) small = record { small = small; pins = refl; fed = refl; names = tt }
 
 variable_fits : (project : diagram.Project) (v : Variable) → IsGoodName v.name → VariableFits project (variable_of v)
 variable_fits project v good = record { name = good; class = λ e. cc; known = refl; spelled = refl; initial = λ value e. absurd (cc); instance = λ e. absurd (cc) }
@@ -186,11 +196,11 @@ no_parts : (inner : diagram.Pou → ℕ) (project : diagram.Project) (vs : List 
 no_parts inner project [] = refl
 no_parts inner project (v ∷ vs) = sum_by-cons (variable_parts inner project) (variable_of v) (map variable_of vs) ∙ ap (λ n. 0 + n) (no_parts inner project vs)
 
-one_each : (p : Pou) (es : List Element) → sum_by (λ (e : diagram.Element). suc (length e.fed)) (map (element_of p) es) ≡ length es
+one_each : (p : Pou) (es : List Element) → sum_by (λ (e : diagram.DiagramElement). suc (length e.fed)) (map (element_of p) es) ≡ length es
 one_each p [] = refl
 one_each p (e ∷ es) =
-    let step : sum_by (λ (f : diagram.Element). suc (length f.fed)) (map (element_of p) (e ∷ es)) ≡ 1 + sum_by (λ (f : diagram.Element). suc (length f.fed)) (map (element_of p) es) =
-    sum_by-cons (λ (f : diagram.Element). suc (length f.fed)) (element_of p e) (map (element_of p) es) in
+    let step : sum_by (λ (f : diagram.DiagramElement). suc (length f.fed)) (map (element_of p) (e ∷ es)) ≡ 1 + sum_by (λ (f : diagram.DiagramElement). suc (length f.fed)) (map (element_of p) es) =
+    sum_by-cons (λ (f : diagram.DiagramElement). suc (length f.fed)) (element_of p e) (map (element_of p) es) in
     omega (arith, one_each p es, step)
 
 few_leaves : (p : Pou) (ns : List (List Element)) → length p.variables ≤ 4096 → length (layout (scope_of (diagram_of p ns ∷ []) (diagram_of p ns))) ≤ 262144
@@ -221,7 +231,7 @@ diagram_fits p ns sound body networks =
       few = subst (λ (vs : List layout.Variable). length vs ≤ 4096) (sym (variables_are p.variables)) (subst (λ n. n ≤ 4096) (sym (length-map p.variables variable_of)) sound.few);
       ids = ap all_differ (same-map (element_of p) (λ e. e.id) p.elements) ∙ body.ids;
       elements = subst (λ n. n ≤ 4096) (sym (length-map p.elements (element_of p))) sound.bounded;
-      ports = each-map PortsFit (element_of p) p.elements (each-weaker _ _ p.elements (λ (e : Element). ports_fit p e.local_id e.kind) sound.small);
+      ports = each-map (PortsFit (diagram_of p ns)) (element_of p) p.elements (each-weaker _ _ p.elements (λ (e : Element). ports_fit p ns e.local_id e.kind) sound.small);
       networks = each-map (ElementsFit project (diagram_of p ns) []) (map (element_of p)) ns (each_there (λ n. ElementsFit project (diagram_of p ns) [] (map (element_of p) n)) ns (λ n there.
           elements_fit p ns n [] [] body (λ e within. networks.only e (there-joined ns n e there within)) (each_at (IsOrder []) ns n networks.orders there)
           (λ id none input. absurd (none_there id none)) (λ d none. absurd (none_there d none))));
@@ -232,10 +242,10 @@ diagram_fits p ns sound body networks =
       addresses = (no_addresses p.variables, tt);
     }
 
-diagram_nests : (p : Pou) (ns : List (List Element)) → Nests 16 (diagram_of p ns ∷ []) (diagram_of p ns)
+diagram_nests : (p : Pou) (ns : List (List Element)) → PouNests 16 (diagram_of p ns ∷ []) (diagram_of p ns)
 diagram_nests p ns x v found none standard =
     let one = declared_is_one p.variables x v found in
-    absurd {A = (q : diagram.Pou) × (diagram.block_named v.ty (diagram_of p ns ∷ []) ≡ Some q) × Nests 15 (diagram_of p ns ∷ []) q} (let no : Some ty.Bool ≡ None = ap (λ (u : layout.Variable). type_named u.ty) one.1 ∙ none in cc)
+    absurd {A = (q : diagram.Pou) × (diagram.block_named v.ty (diagram_of p ns ∷ []) ≡ Some q) × PouNests 15 (diagram_of p ns ∷ []) q} (let no : Some ty.Bool ≡ None = ap (λ (u : layout.Variable). type_named u.ty) one.1 ∙ none in cc)
 
 pub project_fits : (p : Pou) (ns : List (List Element)) → IsSound p → BodyIsFirst p → AreNetworks p ns → ProjectFits (diagram_of p ns ∷ [])
 project_fits p ns sound body networks = record { names = refl; pous = (diagram_fits p ns sound body networks, tt); nests = (diagram_nests p ns, tt) }

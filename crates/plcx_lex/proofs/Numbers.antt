@@ -1,6 +1,7 @@
 -- What reads the numbers of a text reads just these.
 use Rattle.std.proofs.Common.{◌≡◌, ◌⊎◌, ℕ, ℤ, Bool, inl, inr, List, [], ◌∷◌, ◌++◌, take, drop, Option, Some, None, refl, ap, sym, ◌∙◌, subst, nat_eq, append-nil}
 use Rattle.std.specs.Prelude.{codes}
+use Rattle.std.specs.List.{find}
 use Rattle.std.specs.Str.{bytes_eq}
 use Rattle.std.proofs.lemmas.Bool.{cases_Bool, eqb-true}
 use Rattle.std.proofs.lemmas.Slice.Eq.{bytes_eq-Decides}
@@ -17,29 +18,13 @@ use Rattle.plcx_types.proofs.Literals.{number_reads, number_is, truth_is}
 use Rattle.plcx_types.specs.Duration.{IsTime}
 use Rattle.plcx_lex.specs.Number as number
 use Rattle.plcx_lex.specs.Number.{IsTyped, IsLiteral}
-use Rattle.plcx_lex.specs.ReadNumber.{first_named, named, of_type, behind_word, typed_of, literal_of}
+use Rattle.plcx_lex.specs.ReadNumber.{named, of_type, behind_word, typed_of, literal_of}
 use Rattle.plcx_lex.specs.Scan.{IsRun}
 use Rattle.plcx_lex.proofs.Folds.{fold_next, fold_front, fold_back, run_splits}
 
-pub type_word_folded : (t : Ty) → in_lower_case (type_word t) ≡ type_word t
-type_word_folded ty.Bool = refl
-type_word_folded ty.Byte = refl
-type_word_folded ty.Word = refl
-type_word_folded ty.Dword = refl
-type_word_folded ty.Lword = refl
-type_word_folded ty.Sint = refl
-type_word_folded ty.Int = refl
-type_word_folded ty.Dint = refl
-type_word_folded ty.Lint = refl
-type_word_folded ty.Usint = refl
-type_word_folded ty.Uint = refl
-type_word_folded ty.Udint = refl
-type_word_folded ty.Ulint = refl
-type_word_folded ty.Time = refl
-
 -- a name of a type, its number behind it
 named_reads : (t : Ty) (rest : List ℕ) → typed_of (type_word t ++ (codes "#" ++ rest)) ≡ of_type (number_behind t rest) t
-unfolding typed_of behind_word first_named
+unfolding typed_of behind_word
 named_reads ty.Bool rest = refl
 named_reads ty.Byte rest = refl
 named_reads ty.Word rest = refl
@@ -73,8 +58,7 @@ pub literal_reads : (text : List ℕ) (t : Ty) (n : ℤ) → IsLiteral text t n 
 literal_reads text t n is = typed_reads (in_lower_case text) t n is
 
 -- which name was found
-pub first_named_is : (ts : List Ty) (word : List ℕ) (t : Ty) → first_named ts word ≡ Some t → word ≡ type_word t
-unfolding first_named
+pub first_named_is : (ts : List Ty) (word : List ℕ) (t : Ty) → find (λ u. bytes_eq word (type_word u)) ts ≡ Some t → word ≡ type_word t
 first_named_is [] word t found = absurd (cc)
 first_named_is (u ∷ us) word t found = elim (cases_Bool (bytes_eq word (type_word u))) [
   | inl same ↦ let one : Some u ≡ Some t = rw same at found in let is : u ≡ t = cc in (bytes_eq-Decides _ _).0 same ∙ ap type_word is

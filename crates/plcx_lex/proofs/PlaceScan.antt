@@ -9,8 +9,9 @@ use Rattle.std.proofs.lemmas.List.Folds.{list_all_at}
 use Rattle.plcx_types.specs.Name.{in_lower_case}
 use Rattle.plcx_types.specs.Numeral.{is_digit}
 use Rattle.plcx_types.specs.Duration.{AreDigits}
-use Rattle.plcx_lex.specs.Lexis.{is_decimal, is_one_of, ArePlaces, IsAddress}
-use Rattle.plcx_lex.specs.Lexis as lexis
+use Rattle.plcx_types.specs.Address.{is_one_of, ArePlaces, IsAddressForm}
+use Rattle.plcx_lex.specs.Lexis.{is_decimal}
+use Rattle.plcx_types.specs.Address as address
 use Rattle.plcx_lex.specs.Scan.{NoneOf, LongestOf, IsRun}
 use Rattle.plcx_lex.proofs.Folds.{IsFair, fold_all}
 use Rattle.plcx_lex.proofs.NumeralScan.{folded_get, folded_length}
@@ -95,8 +96,8 @@ way : (most : ℕ) (xs : List ℕ) (n m : ℕ) → Digits xs n → m ≤ length 
 way most xs n m run le is = go (take m xs) refl is
   where
     go : (ys : List ℕ) → take m xs ≡ ys → ArePlaces (suc most) ys → ((0 < m) × (m ≤ n)) ⊎ ((0 < n) × Goes most xs n m)
-    go ys same (lexis.last own) = inl (omega (arith, own.some, ap length same, length-take m xs), digits_in xs n m run le (subst (AreDigits 9) (sym same) own))
-    go ys same (lexis.more {digits = digits} {rest = rest} own others) =
+    go ys same (address.last own) = inl (omega (arith, own.some, ap length same, length-take m xs), digits_in xs n m run le (subst (AreDigits 9) (sym same) own))
+    go ys same (address.more {digits = digits} {rest = rest} own others) =
         let count = digits_are xs digits rest n m run le same own in
         let far : length digits < m = omega (arith, ap length same, length-take m xs, length-append digits (46 ∷ rest)) in
         let parts = same_rest 46 xs digits rest m same in
@@ -114,7 +115,7 @@ no_places : (ys : List ℕ) → ArePlaces zero ys → ⊥
 no_places ys is = elim is [ ]
 
 run_places : (most : ℕ) (xs : List ℕ) (n : ℕ) → 0 < n → Digits xs n → ArePlaces (suc most) (take n xs)
-run_places most xs n some run = lexis.last (record { all = all_pass is_decimal (is_digit 10) (take n xs) digit_is run.all; some = omega (arith, length-take n xs, run.within); few = omega (arith, length-take n xs, run.few) })
+run_places most xs n some run = address.last (record { all = all_pass is_decimal (is_digit 10) (take n xs) digit_is run.all; some = omega (arith, length-take n xs, run.within); few = omega (arith, length-take n xs, run.few) })
 
 point_raw : (text : List ℕ) (n : ℕ) → n < length text → get_or (in_lower_case text) n 0 ≡ 46 → get_or text n 0 ≡ 46
 point_raw text n lt is = go (get_or text n 0) (sym (folded_get text n lt) ∙ is)
@@ -168,7 +169,7 @@ places_more (suc most) text n more pos some run lt mark found =
     let own : AreDigits 9 (take n xs) = record { all = all_pass is_decimal (is_digit 10) (take n xs) digit_is digits.all; some = omega (arith, length-take n xs, digits.within); few = omega (arith, length-take n xs, digits.few) } in
     record {
       within = omega (arith, rest.within, length-drop (n + 1) xs);
-      holds = subst (ArePlaces (suc most)) (sym shape) (lexis.more own rest.holds);
+      holds = subst (ArePlaces (suc most)) (sym shape) (address.more own rest.holds);
       longest = λ m far le h. elim (way most xs n m digits le h) [
         | inl a ↦ (let small = a.1 in absurd (omega arith))
         | inr b ↦ (let goes = b.1 in rest.longest (m - (n + 1)) (omega arith) (omega (arith, length-drop (n + 1) xs)) goes.rest)

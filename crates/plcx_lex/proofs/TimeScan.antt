@@ -1,4 +1,4 @@
--- The longest length of time at the front of a text, tried from the longest front on.
+-- The longest length of time at the front of a text, tried from the longest prefix on.
 use Rattle.std.proofs.Common.{◌≡◌, ◌-◌, ◌<◌, ◌≤◌, ℕ, ℤ, true, false, zero, suc, inl, inr, List, [], length, take, get_or, None, refl, ap, arith, sym, ◌∙◌, subst}
 use Rattle.std.specs.Char.{to_ascii_lowercase}
 use Rattle.std.proofs.lemmas.Bool.{cases_lt}
@@ -23,7 +23,7 @@ fair_timed b = grind arith
 pub fold_take : (n : ℕ) (text : List ℕ) → in_lower_case (take n text) ≡ take n (in_lower_case text)
 fold_take n text = sym (take-map to_ascii_lowercase n text)
 
--- no longer front is a length of time
+-- no longer prefix is a length of time
 pub time_above : (text : List ℕ) (n : ℕ) → IsRun (belongs class.Time) (take 128 text) n → (m : ℕ) → n < m → m ≤ length text → Number ty.Time (take m (in_lower_case text)) → ⊥
 time_above text n run m lt le h =
     let brief = brief_time (take m (in_lower_case text)) h.0 (time_only (take m (in_lower_case text)) h.0 h.1) in
@@ -34,7 +34,7 @@ time_above text n run m lt le h =
     let bad = sym brief.all ∙ list_all_at timed (take m (in_lower_case text)) n 0 (omega (arith, length-take m (in_lower_case text), folded_length text)) (ap timed here ∙ fair_timed (get_or (take 128 text) n 0) ∙ stop) in
     absurd (cc)
 
--- n bytes are one, and no longer front is
+-- n bytes are one, and no longer prefix is
 pub time_found : (text : List ℕ) (n : ℕ) (v : ℤ) → n ≤ length text → ((m : ℕ) → n < m → m ≤ length text → Number ty.Time (take m (in_lower_case text)) → ⊥) → IsNumber ty.Time (in_lower_case (take n text)) v → LongestOf (Number ty.Time) (in_lower_case text) n
 time_found text n v within longest is = record {
   within = omega (arith, folded_length text);

@@ -1,9 +1,9 @@
 -- Which tokens begin with which bytes, and the longest token at the front of a text.
-use Rattle.std.proofs.Common.{◌≡◌, ◌⊎◌, ◌<◌, ◌&&◌, not, nat_eq, nat_le, nat_lt, ℕ, ℤ, Bool, true, false, inl, inr, List, [], ◌∷◌, ◌++◌, length, get_or, Some, None, refl, ap, arith, sym, ◌∙◌}
+use Rattle.std.proofs.Common.{◌≡◌, ◌⊎◌, ◌<◌, ◌&&◌, not, nat_eq, nat_le, nat_lt, ℕ, ℤ, Bool, true, false, inl, inr, List, [], ◌∷◌, ◌++◌, length, get_or, Some, refl, ap, arith, sym, ◌∙◌}
 use Rattle.std.specs.Prelude.{codes}
 use Rattle.std.specs.Char.{to_ascii_lowercase}
 use Rattle.std.specs.List.{list_all}
-use Rattle.std.specs.Str.{bytes_eq, str_eq_ignore_ascii_case}
+use Rattle.std.specs.Str.{str_eq_ignore_ascii_case}
 use Rattle.std.proofs.lemmas.Bool.{cases_Bool, and_parts, eqb-true}
 use Rattle.std.proofs.lemmas.Slice.Eq.{bytes_eq-Decides}
 use Rattle.plcx_types.specs.declared.ty.Ty.{Ty}
@@ -12,12 +12,11 @@ use Rattle.plcx_types.specs.Name.{in_lower_case, is_first_byte, is_next_byte, is
 use Rattle.plcx_types.specs.Reserved.{is_keyword, is_in, keywords}
 use Rattle.plcx_types.specs.Literal.{type_word, IsTruth}
 use Rattle.plcx_types.specs.Literal as form
-use Rattle.plcx_types.specs.ReadLiteral.{truth}
-use Rattle.plcx_types.proofs.Literals.{truth_is}
 use Rattle.plcx_lex.specs.Number as number
 use Rattle.plcx_lex.specs.Number.{IsTyped, IsLiteral}
-use Rattle.plcx_lex.specs.ReadNumber.{named, first_named}
-use Rattle.plcx_lex.specs.Lexis.{is_truth, is_decimal, is_one_of, signs, IsAddress, IsToken}
+use Rattle.plcx_lex.specs.ReadNumber.{named}
+use Rattle.plcx_types.specs.Address.{is_one_of, IsAddressForm}
+use Rattle.plcx_lex.specs.Lexis.{is_decimal, sign_texts, IsToken}
 use Rattle.plcx_lex.specs.declared.token.TokenKind.{TokenKind}
 use Rattle.plcx_lex.specs.declared.token.TokenKind.TheVariants as kind
 use Rattle.plcx_lex.specs.Scan.{Typed, Sign}
@@ -50,23 +49,9 @@ truth_word : (xs : List ℕ) (n : ℤ) → IsTruth xs n → is_identifier xs ≡
 truth_word xs n form.IsTruth.truth = refl
 truth_word xs n form.falsehood = refl
 
-pub no_truth : (word : List ℕ) → truth (in_lower_case word) ≡ None → is_truth word ≡ false
-no_truth word none = go (bytes_eq (in_lower_case word) (codes "true")) (bytes_eq (in_lower_case word) (codes "false")) refl refl
-  where
-    go : (a b : Bool) → bytes_eq (in_lower_case word) (codes "true") ≡ a → bytes_eq (in_lower_case word) (codes "false") ≡ b → is_truth word ≡ false
-    go true b p q = absurd (let bad = rw p at none in cc)
-    go false true p q = absurd (let bad = rw (p, q) at none in cc)
-    go false false p q = rw (p, q) refl
-
-pub number_word : (word : List ℕ) (n : ℤ) → truth (in_lower_case word) ≡ Some n → IsToken kind.Number word
-number_word word n found = (ty.Bool, n, number.IsTyped.truth (truth_is (in_lower_case word) n found))
-
-pub ruleset kind_rules = (no_truth, number_word)
-
 -- ---- numbers
 
 named_again : (t : Ty) → named (type_word t) ≡ Some t
-unfolding first_named
 named_again ty.Bool = refl
 named_again ty.Byte = refl
 named_again ty.Word = refl
@@ -142,7 +127,7 @@ digits_start : (text : List ℕ) → list_all is_decimal text ≡ true → 0 < l
 digits_start [] all some = absurd (omega arith)
 digits_start (b ∷ bs) all some = (and_parts (is_decimal b) (list_all is_decimal bs) all).0
 
-address_start : (text : List ℕ) → IsAddress (in_lower_case text) → Starts kind.Address text
+address_start : (text : List ℕ) → IsAddressForm (in_lower_case text) → Starts kind.Address text
 address_start text is =
     let front = head (in_lower_case text) is in
     let some : 0 < length text = omega (arith, front.long, folded_length text) in
@@ -153,7 +138,7 @@ address_start text is =
 
 sign_start : (text : List ℕ) → Sign text → Starts kind.Sign text
 sign_start [] is = absurd (cc)
-sign_start (b ∷ bs) is = record { some = omega arith; first = listed (λ t. is_one_of (codes ":;,.()+-*/=<>") (get_or t 0 0)) signs (b ∷ bs) refl is }
+sign_start (b ∷ bs) is = record { some = omega arith; first = listed (λ t. is_one_of (codes ":;,.()+-*/=<>") (get_or t 0 0)) sign_texts (b ∷ bs) refl is }
 
 pub token_starts : (k : TokenKind) (text : List ℕ) → IsToken k text → Starts k text
 token_starts kind.Keyword text is = starts_word kind.Keyword text (λ b h. h) (identifier_letter text (keyword_word text is.0))
@@ -205,7 +190,7 @@ digits_way kind.Digits text first is = is
 digits_way kind.Address text first is = absurd (digit_no_percent (get_or text 0 0) first (token_starts kind.Address text is).first)
 digits_way kind.Sign text first is = absurd (digit_no_sign (get_or text 0 0) first (token_starts kind.Sign text is).first)
 
-pub address_way : (k : TokenKind) (text : List ℕ) → get_or text 0 0 ≡ 37 → IsToken k text → IsAddress (in_lower_case text)
+pub address_way : (k : TokenKind) (text : List ℕ) → get_or text 0 0 ≡ 37 → IsToken k text → IsAddressForm (in_lower_case text)
 address_way kind.Keyword text first is = absurd (letter_no_percent (get_or text 0 0) (token_starts kind.Keyword text is).first first)
 address_way kind.Name text first is = absurd (letter_no_percent (get_or text 0 0) (token_starts kind.Name text is).first first)
 address_way kind.Number text first is = absurd (letter_no_percent (get_or text 0 0) (token_starts kind.Number text is).first first)

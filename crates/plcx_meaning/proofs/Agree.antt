@@ -7,8 +7,8 @@ use Rattle.plcx_types.specs.Name.{in_lower_case}
 use Rattle.plcx_types.specs.Reserved.{is_own}
 use Rattle.plcx_meaning.specs.Base.{Path, same_path, is_declared, put, Memory, same_memory}
 use Rattle.plcx_meaning.specs.Diagram.{Port}
-use Rattle.plcx_meaning.specs.Evaluate.{Diagram, Wires, fix, set_leaf, set_memory}
-use Rattle.plcx_meaning.specs.Execute.{Run, Frame, hold}
+use Rattle.plcx_meaning.specs.Evaluate.{DiagramState, Wires, fix, set_leaf, set_memory}
+use Rattle.plcx_meaning.specs.Execute.{TextState, Frame, hold}
 use Rattle.plcx_meaning.specs.Templates.{wire_name, memory_name}
 use Rattle.plcx_meaning.specs.Same.{Agree}
 use Rattle.plcx_meaning.specs.Fits.{is_fresh}
@@ -32,7 +32,7 @@ declared_apart k p [] own = refl
 declared_apart k p (y ∷ q) own = ap (λ b. b && same_path q p) (apart_from_own y (in_lower_case (memory_name k)) (not-true (is_own y) (and_parts _ _ own).0) (memory_own k))
 
 -- a declared leaf is set on both sides
-pub agree_set : (d : Diagram) (g : Run) (q : Path) (v : ℤ) → is_declared q ≡ true → Agree d g → Agree (set_leaf d q v) (record g { store = put g.store q v })
+pub agree_set : (d : DiagramState) (g : TextState) (q : Path) (v : ℤ) → is_declared q ≡ true → Agree d g → Agree (set_leaf d q v) (record g { store = put g.store q v })
 agree_set d g q v own a = record {
   stores = λ p h. ap (λ y. if same_path p q then v else y) (a.stores p h);
   memories = λ p k h. a.memories p k h ∙ sym (ap (λ b. if b then v else g.store (in_lower_case (memory_name k) ∷ p)) (memory_apart k p q own));
@@ -40,7 +40,7 @@ agree_set d g q v own a = record {
 }
 
 -- a memory is set, and its variable
-pub agree_memory : (d : Diagram) (g : Run) (p : Path) (k : Memory) (v : ℤ) → IsSmall k → Agree d g → Agree (set_memory d p k v) (record g { store = put g.store (in_lower_case (memory_name k) ∷ p) v })
+pub agree_memory : (d : DiagramState) (g : TextState) (p : Path) (k : Memory) (v : ℤ) → IsSmall k → Agree d g → Agree (set_memory d p k v) (record g { store = put g.store (in_lower_case (memory_name k) ∷ p) v })
 agree_memory d g p k v small a = record {
   stores = λ q h. a.stores q h ∙ sym (ap (λ b. if b then v else g.store q) (declared_apart k p q h));
   memories = λ q j h.

@@ -13,8 +13,8 @@ use Rattle.plcx_std.specs.Pins.{Pin, pins}
 use Rattle.plcx_std.specs.State.{stepped, values}
 use Rattle.plcx_meaning.specs.Base.{Path, is_declared, Each}
 use Rattle.plcx_meaning.specs.Standard.{Leaves, state_of, put_values, called}
-use Rattle.plcx_meaning.specs.Evaluate.{Diagram}
-use Rattle.plcx_meaning.specs.Execute.{Run}
+use Rattle.plcx_meaning.specs.Evaluate.{DiagramState}
+use Rattle.plcx_meaning.specs.Execute.{TextState}
 use Rattle.plcx_meaning.specs.Same.{Agree}
 use Rattle.plcx_meaning.proofs.Agree.{agree_set}
 
@@ -70,14 +70,14 @@ state_same k a b same = state_outside k a ∙ ap (state_of k) (fun_ext (λ x. at
     at x true e = refl
     at x false e = same x e
 
-agree_values : (ps : List Pin) → Each (λ (p : Pin). is_own (in_lower_case p.name) ≡ false) ps → (vs : List Value) (path : Path) → is_declared path ≡ true → (d : Diagram) (g : Run) → Agree d g
+agree_values : (ps : List Pin) → Each (λ (p : Pin). is_own (in_lower_case p.name) ≡ false) ps → (vs : List Value) (path : Path) → is_declared path ≡ true → (d : DiagramState) (g : TextState) → Agree d g
     → Agree (record d { store = put_values ps vs path d.store }) (record g { store = put_values ps vs path g.store })
 agree_values [] own vs path h d g a = a
 agree_values (p ∷ ps) own [] path h d g a = a
 agree_values (p ∷ ps) own (v ∷ vs) path h d g a =
     agree_values ps own.1 vs path h _ _ (agree_set d g (in_lower_case p.name ∷ path) v.n (declared_leaf (in_lower_case p.name) path own.0 h) a)
 
-pub agree_called : (k : StdKind) (time : ℕ) (path : Path) → is_declared path ≡ true → (d : Diagram) (g : Run) → Agree d g
+pub agree_called : (k : StdKind) (time : ℕ) (path : Path) → is_declared path ≡ true → (d : DiagramState) (g : TextState) → Agree d g
     → Agree (record d { store = called k time path d.store }) (record g { store = called k time path g.store })
 agree_called k time path h d g a =
     let same : state_of k (λ x. d.store (x ∷ path)) ≡ state_of k (λ x. g.store (x ∷ path)) = state_same k _ _ (λ x own. a.stores (x ∷ path) (declared_leaf x path own h)) in

@@ -22,7 +22,7 @@ use Rattle.plcx_funcs.proofs.Found.{found_again}
 use Rattle.plcx_meaning.specs.Base.{Path, Each, truth, and_of, or_of, not_of}
 use Rattle.plcx_meaning.specs.Tree.{Operator, Or, Xor, And, Equal, NotEqual, Less, Greater, LessOrEqual, GreaterOrEqual, Plus, Minus, Times, Divide, Mod, Expression, Apply, Not, Binary, expressions}
 use Rattle.plcx_meaning.specs.Functions.{Given, Faulty, group_of, all_suit, can_apply, out_type, answer, call_function}
-use Rattle.plcx_meaning.specs.Execute.{Here, Frame, function_of, value_of, values_of}
+use Rattle.plcx_meaning.specs.Execute.{TextSetting, Frame, function_of, value_of, values_of}
 use Rattle.plcx_meaning.specs.Templates.{both, chain, compared, neighbours, negation, function_text}
 
 and_true : (b : Bool) → (b && true) ≡ b
@@ -98,7 +98,7 @@ pub two : (op : Operator) (t : Ty) (n m : ℤ) → takes (function_of op) t ≡ 
     → call_function (function_of op) (value t n ∷ value t m ∷ []) ≡ answer (out_type (function_of op) t) (applied (function_of op) t (value t n ∷ value t m ∷ []))
 two op t n m h = call_is (function_of op) t (value t n ∷ value t m ∷ []) (two_group op t) (two_apply op t h)
 
-module _ (c : Here) (s : Path → ℤ) (f : Frame) where
+module _ (c : TextSetting) (s : Path → ℤ) (f : Frame) where
   -- the values of expressions
   abbrev pub Known : List Expression → List Value → Type 0
   Known [] [] = Unit {0}
@@ -185,7 +185,7 @@ module _ (c : Here) (s : Path → ℤ) (f : Frame) where
   joins op t join h gives (e ∷ es) (v ∷ vs) low k all = chain_joined op t join h gives e v.n es vs (k.0 ∙ ap (λ u. Given (value u v.n)) all.0) k.1 all.1
 
   tests : (op : Operator) (t : Ty) (join : ℤ → ℤ → ℤ) → takes (function_of op) t ≡ true → ((v w : Value) → answer (out_type (function_of op) t) (applied (function_of op) t (v ∷ w ∷ [])) ≡ answer t (after join t (Ok v) w))
-      → (es : List Expression) (vs : List Value) → 2 ≤ length vs → Known es vs → AllOf t vs → value_of (chain op es) c s f ≡ answer t (funcs.in_lower_case join t vs)
+      → (es : List Expression) (vs : List Value) → 2 ≤ length vs → Known es vs → AllOf t vs → value_of (chain op es) c s f ≡ answer t (funcs.folded join t vs)
   tests op t join h gives [] [] low k all = absurd (omega arith)
   tests op t join h gives [] (v ∷ vs) low k all = absurd k
   tests op t join h gives (e ∷ es) [] low k all = absurd k

@@ -10,9 +10,10 @@ use Rattle.plcx_types.specs.Reserved.{is_own}
 use Rattle.plcx_meaning.specs.Base.{Memory, AtEdge, AtOutput, same_memory, Each, are_distinct, all_differ}
 use Rattle.plcx_meaning.specs.Tree.{Class, Local, Temp, Mark, Plain, Declaration}
 use Rattle.plcx_meaning.specs.Layout.{Variable, variable, variables_of}
-use Rattle.plcx_meaning.specs.Diagram.{Port, ports, has_edge, Element, has_jump, Pou, Project}
+use Rattle.plcx_meaning.specs.Diagram.{Port, ports, has_edge, DiagramElement, has_jump, Pou, Project}
 use Rattle.plcx_meaning.specs.Templates.{wire_name, memory_name, counter_name, own, element_memories, element_wires, counter, pou_text}
 use Rattle.plcx_meaning.specs.Fits.{PortsFit, PouFits}
+use Rattle.plcx_meaning.proofs.Fed.{fed_distinct}
 use Rattle.plcx_meaning.proofs.Names.{declared_not_own, memory_own, wire_own, counter_own, IsSmall, same_memories, same_wires, memory_not_wire, memory_not_counter, wire_not_counter}
 use Rattle.plcx_meaning.proofs.Lists.{each_append, each_map, each_flat_map, each_from, each_weaker, IsNew, distinct_parts, distinct_from, distinct_join}
 use Rattle.plcx_meaning.proofs.Lookups.{map_append, map_flat, kept_variables, passing_variables, own_variables, text_variables, IsDeclaredVariable, IsOwnVariable}
@@ -86,19 +87,19 @@ pins_apart : (id : ℕ) (pin : List ℕ) (fed : List Port) → IsNew (in_lower_c
 pins_apart id pin [] h = tt
 pins_apart id pin (o ∷ fed) h = let parts = or_parts (bytes_eq (in_lower_case pin) (in_lower_case o.pin)) _ h in (and_false (nat_eq id id) _ parts.0, pins_apart id pin fed parts.1)
 
-fed_distinct : (id : ℕ) → id < 2 ^ 64 → (fed : List Port) → are_distinct (map (λ (o : Port). in_lower_case o.pin) fed) ≡ true → are_distinct (names (fed_memories id fed)) ≡ true
-fed_distinct id small [] h = refl
-fed_distinct id small (o ∷ fed) h =
+names_distinct : (id : ℕ) → id < 2 ^ 64 → (fed : List Port) → are_distinct (map (λ (o : Port). in_lower_case o.pin) fed) ≡ true → are_distinct (names (fed_memories id fed)) ≡ true
+names_distinct id small [] h = refl
+names_distinct id small (o ∷ fed) h =
     let parts = distinct_parts (in_lower_case o.pin) (map (λ (q : Port). in_lower_case q.pin) fed) h in
-    distinct_from (in_lower_case (memory_name (AtOutput id o.pin))) (names (fed_memories id fed)) (memory_new (AtOutput id o.pin) small id fed (pins_apart id o.pin fed parts.0)) (fed_distinct id small fed parts.1)
+    distinct_from (in_lower_case (memory_name (AtOutput id o.pin))) (names (fed_memories id fed)) (memory_new (AtOutput id o.pin) small id fed (pins_apart id o.pin fed parts.0)) (names_distinct id small fed parts.1)
 
-memories_distinct : (e : Element) → PortsFit e → are_distinct (names (element_memories e)) ≡ true
-memories_distinct e fit = by (has_edge e.kind)
+memories_distinct : (p : Pou) (e : DiagramElement) → PortsFit p e → are_distinct (names (element_memories e)) ≡ true
+memories_distinct p e fit = by (has_edge e.kind)
   where
     by : (b : Bool) → are_distinct (names (edge_memory b e.id ++ fed_memories e.id e.fed)) ≡ true
     by true =
-        distinct_from (in_lower_case (memory_name (AtEdge e.id))) (names (fed_memories e.id e.fed)) (memory_new (AtEdge e.id) fit.small e.id e.fed (each_from _ e.fed (λ o h. refl))) (fed_distinct e.id fit.small e.fed fit.distinct)
-    by false = fed_distinct e.id fit.small e.fed fit.distinct
+        distinct_from (in_lower_case (memory_name (AtEdge e.id))) (names (fed_memories e.id e.fed)) (memory_new (AtEdge e.id) fit.small e.id e.fed (each_from _ e.fed (λ o h. refl))) (names_distinct e.id fit.small e.fed (fed_distinct p e fit))
+    by false = names_distinct e.id fit.small e.fed (fed_distinct p e fit)
 
 -- those of two elements
 abbrev number_of : Memory → ℕ
@@ -112,7 +113,7 @@ other_memory (AtOutput i p) (AtEdge j) h = refl
 other_memory (AtOutput i p) (AtOutput j q) h = false_and (nat_eq i j) (bytes_eq (in_lower_case p) (in_lower_case q)) h
 
 -- what holds of each memory of an element holds of each of its declarations
-memories_each : (P : Declaration → Type 0) (e : Element) → ((k : Memory) → number_of k ≡ e.id → (t : _) → P (own (memory_name k) t)) → Each P (element_memories e)
+memories_each : (P : Declaration → Type 0) (e : DiagramElement) → ((k : Memory) → number_of k ≡ e.id → (t : _) → P (own (memory_name k) t)) → Each P (element_memories e)
 memories_each P e h = each_append P (edge_memory (has_edge e.kind) e.id) (fed_memories e.id e.fed) (by (has_edge e.kind)) (each_map P (λ (o : Port). own (memory_name (AtOutput e.id o.pin)) o.ty) e.fed (each_from _ e.fed (λ o there. h (AtOutput e.id o.pin) refl o.ty)))
   where
     by : (b : Bool) → Each P (edge_memory b e.id)
@@ -123,8 +124,8 @@ small_memory : (k : Memory) (id : ℕ) → number_of k ≡ id → id < 2 ^ 64 �
 small_memory (AtEdge i) id h small = subst (λ n. n < 2 ^ 64) (sym h) small
 small_memory (AtOutput i p) id h small = subst (λ n. n < 2 ^ 64) (sym h) small
 
-memories_apart : (e d : Element) → PortsFit e → nat_eq e.id d.id ≡ false → Apart (names (element_memories e)) (names (element_memories d))
-memories_apart e d fit other =
+memories_apart : (p : Pou) (e d : DiagramElement) → PortsFit p e → nat_eq e.id d.id ≡ false → Apart (names (element_memories e)) (names (element_memories d))
+memories_apart p e d fit other =
     each_map (λ x. IsNew x (names (element_memories d))) (λ (a : Declaration). in_lower_case a.name) (element_memories e)
     (memories_each _ e (λ j same t. new_among (in_lower_case (memory_name j)) (element_memories d)
     (memories_each _ d (λ k equal u. same_memories j k (small_memory j e.id same fit.small) ∙ other_memory j k (ap₂ nat_eq same equal ∙ other)))))
@@ -140,25 +141,25 @@ wires_of id small (o ∷ os) h =
     let parts = distinct_parts (in_lower_case o.pin) (map (λ (q : Port). in_lower_case q.pin) os) h in
     distinct_from (in_lower_case (wire_name id o.pin)) (names (map (λ (q : Port). own (wire_name id q.pin) q.ty) os)) (wire_new id small o.pin id os (pins_apart id o.pin os parts.0)) (wires_of id small os parts.1)
 
-wires_distinct : (e : Element) → PortsFit e → are_distinct (names (element_wires e)) ≡ true
-wires_distinct e fit = wires_of e.id fit.small (ports e.kind) fit.pins
+wires_distinct : (p : Pou) (e : DiagramElement) → PortsFit p e → are_distinct (names (element_wires e)) ≡ true
+wires_distinct p e fit = wires_of e.id fit.small (ports e.kind) fit.pins
 
-wires_apart : (e d : Element) → PortsFit e → nat_eq e.id d.id ≡ false → Apart (names (element_wires e)) (names (element_wires d))
-wires_apart e d fit other =
+wires_apart : (p : Pou) (e d : DiagramElement) → PortsFit p e → nat_eq e.id d.id ≡ false → Apart (names (element_wires e)) (names (element_wires d))
+wires_apart p e d fit other =
     each_map (λ x. IsNew x (names (element_wires d))) (λ (a : Declaration). in_lower_case a.name) (element_wires e)
     (each_map _ (λ (o : Port). own (wire_name e.id o.pin) o.ty) (ports e.kind)
     (each_from _ (ports e.kind) (λ o there. wire_new e.id fit.small o.pin d.id (ports d.kind) (each_from _ (ports d.kind) (λ q h. false_and (nat_eq e.id d.id) _ other)))))
 
-module _ (p : Pou) (ports_fit : Each PortsFit p.elements) (ids : all_differ (map (λ (e : Element). e.id) p.elements) ≡ true) where
+module _ (p : Pou) (ports_fit : Each (PortsFit p) p.elements) (ids : all_differ (map (λ (e : DiagramElement). e.id) p.elements) ≡ true) where
   all_memories : are_distinct (names (flat_map element_memories p.elements)) ≡ true
   all_memories =
       ap are_distinct (map_flat (λ (d : Declaration). in_lower_case d.name) element_memories p.elements)
-      ∙ distinct_all (λ e. names (element_memories e)) (λ (e : Element). e.id) PortsFit memories_apart p.elements ports_fit (each_weaker PortsFit _ p.elements memories_distinct ports_fit) ids
+      ∙ distinct_all (λ e. names (element_memories e)) (λ (e : DiagramElement). e.id) (PortsFit p) (memories_apart p) p.elements ports_fit (each_weaker (PortsFit p) _ p.elements (memories_distinct p) ports_fit) ids
 
   all_wires : are_distinct (names (flat_map element_wires p.elements)) ≡ true
   all_wires =
       ap are_distinct (map_flat (λ (d : Declaration). in_lower_case d.name) element_wires p.elements)
-      ∙ distinct_all (λ e. names (element_wires e)) (λ (e : Element). e.id) PortsFit wires_apart p.elements ports_fit (each_weaker PortsFit _ p.elements wires_distinct ports_fit) ids
+      ∙ distinct_all (λ e. names (element_wires e)) (λ (e : DiagramElement). e.id) (PortsFit p) (wires_apart p) p.elements ports_fit (each_weaker (PortsFit p) _ p.elements (wires_distinct p) ports_fit) ids
 
   -- wires, and behind them the counter
   abbrev passing : List Declaration

@@ -17,7 +17,7 @@ use Rattle.plcx_meaning.specs.Diagram.{Pou, Project}
 use Rattle.plcx_meaning.specs.Evaluate as evaluate
 use Rattle.plcx_meaning.specs.Evaluate.{is_in_out, leaf_named, operand_leaf}
 use Rattle.plcx_meaning.specs.Execute as text
-use Rattle.plcx_meaning.specs.Execute.{Place, Temporary, Kept, Bound, Instance, elementary, place_by, place, Here, place_of, Run, Frame, read, assign, leaf_at, has_leaf, parts_named, read_member, read_output, Formal, Takes, Binds, formal_by, formal, formal_named}
+use Rattle.plcx_meaning.specs.Execute.{Referent, Temporary, Kept, Bound, Instance, elementary, referent_by, referent, TextSetting, referent_of, TextState, Frame, read, assign, leaf_at, has_leaf, parts_named, read_member, read_output, Formal, Takes, Binds, formal_by, formal, formal_named}
 use Rattle.plcx_meaning.specs.Templates.{pou_text, unit_of}
 use Rattle.plcx_meaning.specs.Fits.{IsVariable, IsInstance, PouFits, ProjectFits}
 use Rattle.plcx_meaning.proofs.Lists.{each_at}
@@ -27,7 +27,7 @@ use Rattle.plcx_meaning.proofs.StaticsWorlds.{hidden, text_composed, composed_de
 use Rattle.plcx_meaning.proofs.Asked.{IsDeclared, VariableAsked}
 
 -- where the statements of a POU of a project stand
-abbrev pub here : Project → Pou → Site → Here
+abbrev pub here : Project → Pou → Site → TextSetting
 here project p site = record { world = text.world_of (unit_of project); variables = variables_of (pou_text p).blocks; site = site }
 
 pub type_self : (t : Ty) → same_ty t t ≡ true
@@ -60,10 +60,10 @@ is_bound_class k = elim k [ InOut ↦ true | _ ↦ false ]
 abbrev leaf_in : Class → List ℕ → Site → Path
 leaf_in k x site = if is_bound_class k then site.bound (in_lower_case x) else in_lower_case x ∷ site.path
 
-module _ (c : Here) (vs : List Variable) (x : List ℕ) (t : Ty) (site : IsDeclared c.site) (own : is_own (in_lower_case x) ≡ false) where
-  asked_at : (q : Place) (leaf : Path) → place_of c x ≡ q → leaf_named vs c.site x ≡ leaf
+module _ (c : TextSetting) (vs : List Variable) (x : List ℕ) (t : Ty) (site : IsDeclared c.site) (own : is_own (in_lower_case x) ≡ false) where
+  asked_at : (q : Referent) (leaf : Path) → referent_of c x ≡ q → leaf_named vs c.site x ≡ leaf
       → ((s : Path → ℤ) (f : Frame) → read q x c.site s f ≡ Given (value t (s leaf)))
-      → ((n : ℤ) (g : Run) (f : Frame) → assign q x c.site (value t n) g f ≡ (if same_ty t t then Ended (record g { store = put g.store leaf n }) f else Stuck))
+      → ((n : ℤ) (g : TextState) (f : Frame) → assign q x c.site (value t n) g f ≡ (if same_ty t t then Ended (record g { store = put g.store leaf n }) f else Stuck))
       → has_leaf q t ≡ same_ty t t → leaf_at q x c.site ≡ leaf → is_declared leaf ≡ true → VariableAsked c vs x t
   asked_at q leaf is at reads writes has stands declared = record {
     reads = λ s f. ap (λ r. read r x c.site s f) is ∙ reads s f ∙ ap (λ l. Given (value t (s l))) (sym at);
@@ -73,7 +73,7 @@ module _ (c : Here) (vs : List Variable) (x : List ℕ) (t : Ty) (site : IsDecla
     declared = ap is_declared at ∙ declared;
   }
 
-  asked_by : (k : Class) → k ≢ Temp → place_of c x ≡ elementary k t → leaf_named vs c.site x ≡ leaf_in k x c.site → VariableAsked c vs x t
+  asked_by : (k : Class) → k ≢ Temp → referent_of c x ≡ elementary k t → leaf_named vs c.site x ≡ leaf_in k x c.site → VariableAsked c vs x t
   asked_by Local other is at = asked_at (Kept t) (in_lower_case x ∷ c.site.path) is at (λ s f. refl) (λ n g f. refl) refl refl (leaf_declared x c.site.path own site.path)
   asked_by Input other is at = asked_at (Kept t) (in_lower_case x ∷ c.site.path) is at (λ s f. refl) (λ n g f. refl) refl refl (leaf_declared x c.site.path own site.path)
   asked_by Output other is at = asked_at (Kept t) (in_lower_case x ∷ c.site.path) is at (λ s f. refl) (λ n g f. refl) refl refl (leaf_declared x c.site.path own site.path)
@@ -96,7 +96,7 @@ module _ (project : Project) (p : Pou) (fits : ProjectFits project) (there : Con
       let v : Variable = is.variable in
       let world = text.world_of (unit_of project) in
       asked_by (here project p site) (variables_of p.lists) x t ok (own_name x v is.found) v.class is.class
-      (ap (place world) (in_text x v is.found) ∙ ap (λ m. place_by m v.class v.ty) (elementary_meaning world v.ty t is.typed))
+      (ap (referent world) (in_text x v is.found) ∙ ap (λ m. referent_by m v.class v.ty) (elementary_meaning world v.ty t is.typed))
       (ap (λ o. if is_in_out o then site.bound (in_lower_case x) else in_lower_case x ∷ site.path) is.found)
 
   -- the variables within an instance are those of the diagram, and what is hidden

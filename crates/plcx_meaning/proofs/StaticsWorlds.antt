@@ -16,7 +16,7 @@ use Rattle.plcx_meaning.specs.Base.{Each, Memory, AtEdge, AtOutput}
 use Rattle.plcx_meaning.specs.Tree.{Local, Temp, Plain, Declaration, PouText}
 use Rattle.plcx_meaning.specs.Standard.{pin_blocks}
 use Rattle.plcx_meaning.specs.Layout.{Variable, variable, variables_of, variable_named, composed}
-use Rattle.plcx_meaning.specs.Diagram.{Port, ports, has_edge, is_program, Element, Pou, Project, has_jump}
+use Rattle.plcx_meaning.specs.Diagram.{Port, ports, has_edge, is_program, DiagramElement, Pou, Project, has_jump}
 use Rattle.plcx_meaning.specs.Diagram as diagram
 use Rattle.plcx_meaning.specs.Evaluate as evaluate
 use Rattle.plcx_meaning.specs.Execute as text
@@ -83,10 +83,10 @@ module _ (P : Variable → Type 0) (of_memory : (k : Memory) (t : Ty) → P (own
   counter_each true = (of_counter, tt)
   counter_each false = tt
 
-  memories_each : (e : Element) → Each (λ (d : Declaration). P (variable Local Plain d)) (element_memories e)
+  memories_each : (e : DiagramElement) → Each (λ (d : Declaration). P (variable Local Plain d)) (element_memories e)
   memories_each e = each_append _ _ _ (edge_each (has_edge e.kind) e.id) (each_map _ (λ (o : Port). own (memory_name (AtOutput e.id o.pin)) o.ty) e.fed (each_from _ e.fed (λ o there. of_memory (AtOutput e.id o.pin) o.ty)))
 
-  wires_each : (e : Element) → Each (λ (d : Declaration). P (variable Temp Plain d)) (element_wires e)
+  wires_each : (e : DiagramElement) → Each (λ (d : Declaration). P (variable Temp Plain d)) (element_wires e)
   wires_each e = each_map _ (λ (o : Port). own (wire_name e.id o.pin) o.ty) (ports e.kind) (each_from _ (ports e.kind) (λ o there. of_wire e.id o.pin o.ty))
 
   pub own_each : (p : Pou) → Each P (own_variables p)

@@ -12,6 +12,7 @@ use Rattle.plcx_funcs.specs.Applied.{is_zero, both_bits, turned}
 abbrev pub Path : Type 0
 Path = List (List ℕ)
 
+-- the same names in the same order
 abbrev pub same_path : Path → Path → Bool
 same_path [] [] = true
 same_path [] (y ∷ q) = false
@@ -30,15 +31,19 @@ changed same f x v y = if same y x then v else f y
 abbrev pub is_true : ℤ → Bool
 is_true n = not (is_zero n)
 
+-- the number of a truth value
 abbrev pub truth : Bool → ℤ
 truth b = if b then pos 1 else pos 0
 
+-- AND of two truth values
 abbrev pub and_of : ℤ → ℤ → ℤ
 and_of = both_bits bit_and
 
+-- OR of two truth values
 abbrev pub or_of : ℤ → ℤ → ℤ
 or_of = both_bits bit_or
 
+-- NOT of a truth value
 abbrev pub not_of : ℤ → ℤ
 not_of = turned ty.Bool
 
@@ -56,6 +61,7 @@ pub data Memory : Type 0 where
   AtEdge : ℕ → Memory
   AtOutput : ℕ → List ℕ → Memory
 
+-- two memories of one instance are the same: numbers are equal, and pins but for case
 abbrev pub same_memory : Memory → Memory → Bool
 same_memory (AtEdge i) (AtEdge j) = nat_eq i j
 same_memory (AtEdge i) (AtOutput j pin) = false

@@ -24,8 +24,9 @@ use Rattle.plcx_lex.specs.declared.token.TokenKind.{TokenKind}
 use Rattle.plcx_lex.specs.declared.token.TokenKind.TheVariants as kind
 use Rattle.plcx_lex.specs.Number as typed
 use Rattle.plcx_lex.specs.Number.{IsTyped}
-use Rattle.plcx_lex.specs.Lexis as lexis
-use Rattle.plcx_lex.specs.Lexis.{is_decimal, is_one_of, ArePlaces, IsAddress, signs, IsToken}
+use Rattle.plcx_types.specs.Address as address
+use Rattle.plcx_types.specs.Address.{is_one_of, ArePlaces, IsAddressForm}
+use Rattle.plcx_lex.specs.Lexis.{is_decimal, sign_texts, IsToken}
 
 -- ---- lists
 
@@ -226,12 +227,12 @@ digit_place : (b : ℕ) → is_digit 10 b ≡ true → is_place b ≡ true
 digit_place b h = grind (arith, nat_tests)
 
 places_bytes : {most : ℕ} {text : List ℕ} → ArePlaces most text → list_all is_place text ≡ true
-places_bytes (lexis.last {digits = digits} d) = all_weaken (is_digit 10) is_place digits digit_place d.all
-places_bytes (lexis.more {digits = digits} {rest = rest} d h) = all_append is_place digits (codes "." ++ rest) (all_weaken (is_digit 10) is_place digits digit_place d.all) (places_bytes h)
+places_bytes (address.last {digits = digits} d) = all_weaken (is_digit 10) is_place digits digit_place d.all
+places_bytes (address.more {digits = digits} {rest = rest} d h) = all_append is_place digits (codes "." ++ rest) (all_weaken (is_digit 10) is_place digits digit_place d.all) (places_bytes h)
 
-pub address_bytes : {text : List ℕ} → IsAddress text → list_all is_place text ≡ true
-address_bytes (lexis.plain {area = area} {places = places} a h) = and_from (is_place area) (list_all is_place places) (member_test is_place (codes "iqm") area refl a) (places_bytes h)
-address_bytes (lexis.sized {area = area} {size = size} {places = places} a s h) =
+pub address_bytes : {text : List ℕ} → IsAddressForm text → list_all is_place text ≡ true
+address_bytes (address.plain {area = area} {places = places} a h) = and_from (is_place area) (list_all is_place places) (member_test is_place (codes "iqm") area refl a) (places_bytes h)
+address_bytes (address.sized {area = area} {size = size} {places = places} a s h) =
     and_from (is_place area) (is_place size && list_all is_place places) (member_test is_place (codes "iqm") area refl a)
     (and_from (is_place size) (list_all is_place places) (member_test is_place (codes "xbwdl") size refl s) (places_bytes h))
 
@@ -240,9 +241,9 @@ abbrev pub head : List ℕ → ℕ
 head [] = 0
 head (b ∷ bs) = b
 
-pub address_head : {text : List ℕ} → IsAddress text → head text ≡ 37
-address_head (lexis.plain a h) = refl
-address_head (lexis.sized a s h) = refl
+pub address_head : {text : List ℕ} → IsAddressForm text → head text ≡ 37
+address_head (address.plain a h) = refl
+address_head (address.sized a s h) = refl
 
 behind_head : (t : Ty) (text : List ℕ) → is_next_byte (head (type_word t ++ (codes "#" ++ text))) ≡ true
 behind_head ty.Bool text = refl
@@ -293,7 +294,7 @@ stop_inside kind.Name x w b more h stop = stopped is_next_byte (x ∷ w) b more 
 stop_inside kind.Number x w b more h stop = stopped (λ c. is_inner (to_ascii_lowercase c)) (x ∷ w) b more refl (sym (folded_all is_inner (x ∷ (w ++ b ∷ more))) ∙ typed_inner h.2) stop
 stop_inside kind.Digits x w b more h stop = stopped is_next_byte (x ∷ w) b more refl (digits_bytes (x ∷ (w ++ b ∷ more)) h.0) stop
 stop_inside kind.Address x w b more h stop = stopped (λ c. is_place (to_ascii_lowercase c)) (x ∷ w) b more refl (sym (folded_all is_place (x ∷ (w ++ b ∷ more))) ∙ address_bytes h) stop
-stop_inside kind.Sign x w b more h stop = stopped (λ c. not (is_stop c)) w b more refl (table_test (λ s. list_all (λ c. not (is_stop c)) (drop 1 s)) signs (x ∷ (w ++ b ∷ more)) refl h) stop
+stop_inside kind.Sign x w b more h stop = stopped (λ c. not (is_stop c)) w b more refl (table_test (λ s. list_all (λ c. not (is_stop c)) (drop 1 s)) sign_texts (x ∷ (w ++ b ∷ more)) refl h) stop
 
 -- a word and a point
 pub point_inside : (k : TokenKind) (x : ℕ) (w more : List ℕ) → list_all is_next_byte (x ∷ w) ≡ true → IsToken k (x ∷ (w ++ 46 ∷ more)) → ⊥
@@ -307,9 +308,9 @@ point_inside kind.Digits x w more word h = (let no : false ≡ true = at_place i
 point_inside kind.Address x w more word h =
     let no : true ≡ false = sym (lower_next x ∙ (and_parts (is_next_byte x) (list_all is_next_byte w) word).0) ∙ ap is_next_byte (address_head h) in
     absurd cc
-point_inside kind.Sign x w more word h = opposite (is_next_byte x) (and_parts (is_next_byte x) (list_all is_next_byte w) word).0 (table_test (λ s. not (is_next_byte (head s))) signs (x ∷ (w ++ 46 ∷ more)) refl h)
+point_inside kind.Sign x w more word h = opposite (is_next_byte x) (and_parts (is_next_byte x) (list_all is_next_byte w) word).0 (table_test (λ s. not (is_next_byte (head s))) sign_texts (x ∷ (w ++ 46 ∷ more)) refl h)
 
--- the signs that begin no longer token
+-- the sign_texts that begin no longer token
 abbrev pub lone : List ℕ
 lone = 40 ∷ 46 ∷ 47 ∷ []
 
@@ -330,7 +331,7 @@ alone kind.Name a b more one h = first_word a (b ∷ more) (name_bytes (a ∷ b 
 alone kind.Number a b more one h = opposite (is_next_byte (to_ascii_lowercase a)) (typed_head h.2) (member_test (λ c. not (is_next_byte (to_ascii_lowercase c))) lone a refl one)
 alone kind.Digits a b more one h = first_word a (b ∷ more) (digits_bytes (a ∷ b ∷ more) h.0) one
 alone kind.Address a b more one h = opposite (nat_eq (to_ascii_lowercase a) 37) (ap (λ c. nat_eq c 37) (address_head h)) (member_test (λ c. not (nat_eq (to_ascii_lowercase c) 37)) lone a refl one)
-alone kind.Sign a b more one h = opposite (begins_long a) (table_test may_be signs (a ∷ b ∷ more) refl h) (member_test (λ c. not (begins_long c)) lone a refl one)
+alone kind.Sign a b more one h = opposite (begins_long a) (table_test may_be sign_texts (a ∷ b ∷ more) refl h) (member_test (λ c. not (begins_long c)) lone a refl one)
 
 typed_some : {text : List ℕ} {t : Ty} {n : ℤ} → IsTyped text t n → 0 < length text
 typed_some {text = []} h = (let no : false ≡ true = typed_head h in absurd cc)

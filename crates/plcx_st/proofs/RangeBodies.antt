@@ -12,10 +12,10 @@ use Rattle.plcx_funcs.specs.Names.{function_named}
 use Rattle.plcx_meaning.specs.Base.{Each}
 use Rattle.plcx_meaning.specs.Tree.{Expression, Number, Name, Member, Apply, Not, Binary, Expressions, no_expression, expression, Argument, Statement, Assign, Call, If, While, Case, Statements, no_statement, statement, Arms, no_arm, arm, statements}
 use Rattle.plcx_meaning.specs.Layout.{Variable, variable_named, Elementary, Composed, composed, parts, parts_of, Scope}
-use Rattle.plcx_meaning.specs.Functions.{group_of, group_place}
-use Rattle.plcx_meaning.specs.Execute.{Instance, place, Formal, Takes, Binds, NoFormal, formal, function_of}
-use Rattle.plcx_meaning.specs.Typed.{variable_in, part_in, place_type, member_type, is_operator, type_at, result_type, call_type, expression_type, expression_types, IsInRange, AreInRange}
-use Rattle.plcx_meaning.specs.Ready.{IsBinding, ValueIsReady, labels, IsLabel, StatementIsReady, StatementsAreReady, ArmsAreReady}
+use Rattle.plcx_meaning.specs.Functions.{group_of, group_index}
+use Rattle.plcx_meaning.specs.Execute.{Instance, referent, Formal, Takes, Binds, NoFormal, formal, function_of}
+use Rattle.plcx_meaning.specs.Typed.{variable_in, part_in, referent_type, member_type, is_operator, type_at, result_type, call_type, expression_type, expression_types, IsInRange, AreInRange}
+use Rattle.plcx_meaning.specs.Ready.{BindingIsReady, ValueIsReady, labels, IsLabel, StatementIsReady, StatementsAreReady, ArmsAreReady}
 use Rattle.plcx_meaning.proofs.Lists.{each_weaker}
 use Rattle.plcx_meaning.proofs.Lookups.{found_name, each_found}
 use Rattle.plcx_st.specs.InRange.{IsWord, HasAny, ExpressionInRange, ExpressionsInRange, ArgumentInRange, StatementInRange, StatementsInRange, ArmsInRange}
@@ -73,10 +73,10 @@ module _ (c : Scope) (own : Each HasWord c.own) (types : (type : List ℕ) → E
       by None e k = absurd (cc)
       by (Some v) e k = (found_word i c.own v own e, found_word x (parts_of c.world (Some v)) w (parts_words (Some v)) k)
 
-  place_word : (x : List ℕ) (t : Ty) → place_type (place c.world (variable_in c x)) ≡ Some t → IsWord x
+  place_word : (x : List ℕ) (t : Ty) → referent_type (referent c.world (variable_in c x)) ≡ Some t → IsWord x
   place_word x t h = by (variable_in c x) refl h
     where
-      by : (o : Option Variable) → variable_in c x ≡ o → place_type (place c.world o) ≡ Some t → IsWord x
+      by : (o : Option Variable) → variable_in c x ≡ o → referent_type (referent c.world o) ≡ Some t → IsWord x
       by None e k = absurd (cc)
       by (Some v) e k = found_word x c.own v own e
 
@@ -87,10 +87,10 @@ module _ (c : Scope) (own : Each HasWord c.own) (types : (type : List ℕ) → E
       by None e k = absurd (cc)
       by (Some w) e k = part_words i x w e
 
-  instance_word : (i type : List ℕ) → place c.world (variable_in c i) ≡ Instance type → IsWord i
+  instance_word : (i type : List ℕ) → referent c.world (variable_in c i) ≡ Instance type → IsWord i
   instance_word i type h = by (variable_in c i) refl h
     where
-      by : (o : Option Variable) → variable_in c i ≡ o → place c.world o ≡ Instance type → IsWord i
+      by : (o : Option Variable) → variable_in c i ≡ o → referent c.world o ≡ Instance type → IsWord i
       by None e k = absurd (cc)
       by (Some v) e k = found_word i c.own v own e
 
@@ -110,7 +110,7 @@ module _ (c : Scope) (own : Each HasWord c.own) (types : (type : List ℕ) → E
   has_any (expression e es) types g u h k = tt
   has_any no_expression types g u h k =
       let none : types ≡ [] = sym (ap (λ (o : Option (List Ty)). elim o [ Some ts ↦ ts | None ↦ [] ]) h) in
-      let no : None ≡ Some u = sym (no_group (group_place g)) ∙ ap (group_of g) (sym none) ∙ k in
+      let no : None ≡ Some u = sym (no_group (group_index g)) ∙ ap (group_of g) (sym none) ∙ k in
       absurd (cc)
 
   mutual
@@ -135,7 +135,7 @@ module _ (c : Scope) (own : Each HasWord c.own) (types : (type : List ℕ) → E
         let others = mapped_some (expression_types c es) (λ (us : List Ty). first.0 ∷ us) types first.2 in
         (expression_range e first.0 first.1, expressions_range es others.0 others.1)
 
-  binding_range : (e : Expression) (t : Ty) → IsBinding c e t → ExpressionInRange e × ExpressionFits e
+  binding_range : (e : Expression) (t : Ty) → BindingIsReady c e t → ExpressionInRange e × ExpressionFits e
   binding_range (Name x) t h = (found_word x c.own h.variable own h.found, tt)
   binding_range (Number v) t h = absurd h
   binding_range (Member i x) t h = absurd h

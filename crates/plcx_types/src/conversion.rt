@@ -28,6 +28,7 @@ fn conversion_of(word: &[u8]) -> Option<(Ty, Ty)>
 pub fn conversion_named(word: &[u8]) -> Option<(Ty, Ty)>
     ensures some { IfSome result (λ types. NamesConversion word.now types.0 types.1) }
     ensures none { IfNone result ((from to : Ty) → NamesConversion word.now from to → ⊥) }
+    ensures value { result ≡ conversion_of (in_lower_case word.now) }
 {
     conversion_of(word)
 }

@@ -1,6 +1,6 @@
 use Rattle.std.proofs.Common.{ℕ, List, Some, None, arith, sym, ◌∙◌, subst}
 use Rattle.plcx_types.specs.Name.{in_lower_case}
-use Rattle.plcx_lex.specs.Lexis.{ArePlaces}
+use Rattle.plcx_types.specs.Address.{ArePlaces}
 use Rattle.plcx_lex.specs.Scan.{LongestOf, NoneOf}
 use Rattle.plcx_lex.proofs.TypedScan.{rest_all}
 use Rattle.plcx_lex.proofs.AddressScan.{address_none, sized_here, plain_here}
