@@ -79,7 +79,7 @@ fn fits_node(node: &Node, names: &[&str]) -> bool
     ensures { result ≡ fits_node (map (λ w. w.now) names.now) node.now }
 {
     match node {
-        Node::Element(child) => is_among(names, child.get().name()),
+        Node::Element(child) => is_among(names, child.name()),
         Node::Text(text) => is_blank(text.value.as_slice()),
     }
 }
@@ -149,8 +149,8 @@ pub fn child_among<'a>(node: &'a Node, names: &[&str]) -> Option<&'a Element>
 {
     match node {
         Node::Element(child) => {
-            if is_among(names, child.get().name()) {
-                Some(child.get())
+            if is_among(names, child.name()) {
+                Some(child)
             } else {
                 None
             }
@@ -224,7 +224,7 @@ fn is_known_node(node: &Node) -> bool
     ensures { result ≡ is_known_node node.now }
 {
     match node {
-        Node::Element(child) => is_known(child.get()),
+        Node::Element(child) => is_known(child),
         Node::Text(_) => true,
     }
 }

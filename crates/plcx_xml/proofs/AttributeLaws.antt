@@ -6,14 +6,11 @@ use Rattle.plcx_types.specs.declared.span.Span.{Span}
 use Rattle.plcx_xml.specs.declared.tree.Attribute.{Attribute}
 use Rattle.plcx_xml.specs.Grammar.{SpellsAttribute, SpellsAttributes, span_from}
 use Rattle.plcx_xml.specs.Reading.{Parts, parts_at}
-use Rattle.plcx_xml.specs.Reads.{span_between, attribute_of, attribute_at, many, many_then}
+use Rattle.plcx_xml.specs.Reads.{span_between, attribute_of, attribute_at, value_of, many, many_then}
 use Rattle.plcx_xml.proofs.ManyTimes.{many-none, many-some}
-use Rattle.plcx_xml.proofs.Steps.{some_inj}
+use Rattle.plcx_xml.proofs.Steps.{some_inj, bind_some}
+use Rattle.plcx_xml.proofs.WrittenLaws.{map_some, written-sound, written-again}
 use Rattle.plcx_xml.proofs.Values.{Named, parts-sound, parts-again}
-
-pub map_some : {A B : Type 0} (f : A → B) (o : Option A) (b : B) → option_map f o ≡ Some b → (a : A) × (o ≡ Some a) × (f a ≡ b)
-map_some f None b h = let no : ⊥ = cc in absurd no
-map_some f (Some a) b h = (a, refl, some_inj (f a) b h)
 
 -- the quoted part of an attribute, before what follows it
 quoted-regroup : (name left right v rest : List ℕ) (q : ℕ) → (name ++ (left ++ (61 ∷ (right ++ (q ∷ (v ++ (q ∷ []))))))) ++ rest ≡ name ++ (left ++ (61 ∷ (right ++ (q ∷ (v ++ (q ∷ rest))))))
@@ -26,12 +23,12 @@ span-same last at before inner rest h =
     let e : last - rest ≡ at + before + inner = omega arith in
     rw (s, e) refl
 
-pub attribute-spelled : (last at : ℕ) (bytes : List ℕ) (p : Parts) → parts_at bytes ≡ Some p → at + length bytes ≡ last → (front : List ℕ) × SpellsAttribute at (attribute_of last p).0 front × (bytes ≡ front ++ p.rest)
-attribute-spelled last at bytes p h l =
+pub attribute-spelled : (last at : ℕ) (bytes : List ℕ) (p : Parts) (value : List ℕ) → parts_at bytes ≡ Some p → value_of p.written ≡ Some value → at + length bytes ≡ last → (front : List ℕ) × SpellsAttribute at (attribute_of last p value).0 front × (bytes ≡ front ++ p.rest)
+attribute-spelled last at bytes p value h v l =
     let s = parts-sound bytes p h in
     let n = s.4 in
-    let quoted = p.name ++ (n.left ++ (61 ∷ (n.right ++ (n.quote ∷ (p.value ++ (n.quote ∷ [])))))) in
-    let own : p.own ≡ quoted ++ p.rest = n.spelled ∙ sym (quoted-regroup p.name n.left n.right p.value p.rest n.quote) in
+    let quoted = p.name ++ (n.left ++ (61 ∷ (n.right ++ (n.quote ∷ (p.written ++ (n.quote ∷ [])))))) in
+    let own : p.own ≡ quoted ++ p.rest = n.spelled ∙ sym (quoted-regroup p.name n.left n.right p.written p.rest n.quote) in
     let whole : bytes ≡ (s.0 ++ quoted) ++ p.rest = s.3 ∙ (ap (λ (xs : List ℕ). s.0 ++ xs) own ∙ sym (append_assoc s.0 quoted p.rest)) in
     let long : length p.own ≡ length quoted + length p.rest = ap (λ (xs : List ℕ). length xs) own ∙ length-append quoted p.rest in
     let all : length bytes ≡ length s.0 + length p.own = ap (λ (xs : List ℕ). length xs) s.3 ∙ length-append s.0 p.own in
@@ -42,11 +39,13 @@ attribute-spelled last at bytes p h l =
         left = n.left;
         right = n.right;
         quote = n.quote;
+        written = p.written;
         quoted = quoted;
         parted = (s.1, s.2);
         named = n.named;
         spaced = n.spaced;
-        value = (n.is_one, n.all);
+        inside = (n.is_one, n.all);
+        value = written-sound p.written value v;
         inner = refl;
         all = refl;
         span = rw long (span-same last at (length s.0) (length quoted) (length p.rest) sum);
@@ -56,21 +55,23 @@ attribute-spelled last at bytes p h l =
 
 pub attribute-sound : (last at : ℕ) (bytes : List ℕ) (a : Attribute) (rest : List ℕ) → attribute_at last bytes ≡ Some (a, rest) → at + length bytes ≡ last → (front : List ℕ) × SpellsAttribute at a front × (bytes ≡ front ++ rest)
 attribute-sound last at bytes a rest h l =
-    let m = map_some (attribute_of last) (parts_at bytes) (a, rest) h in
-    subst (λ (r : Attribute × List ℕ). (front : List ℕ) × SpellsAttribute at r.0 front × (bytes ≡ front ++ r.1)) m.2 (attribute-spelled last at bytes m.0 m.1 l)
+    let f : Parts → Option (Attribute × List ℕ) = λ p. option_map (attribute_of last p) (value_of p.written) in
+    let b = bind_some (parts_at bytes) f (a, rest) h in
+    let m = map_some (attribute_of last b.0) (value_of b.0.written) (a, rest) b.2 in
+    subst (λ (r : Attribute × List ℕ). (front : List ℕ) × SpellsAttribute at r.0 front × (bytes ≡ front ++ r.1)) m.2 (attribute-spelled last at bytes b.0 m.0 b.1 m.1 l)
 
 pub attribute-again : (last at : ℕ) (front : List ℕ) (a : Attribute) (rest : List ℕ) → SpellsAttribute at a front → at + length front + length rest ≡ last → attribute_at last (front ++ rest) ≡ Some (a, rest)
 attribute-again last at front a rest s l =
     let own = s.quoted ++ rest in
-    let spelled : own ≡ a.name ++ (s.left ++ (61 ∷ (s.right ++ (s.quote ∷ (a.value ++ (s.quote ∷ rest)))))) = ap (λ (xs : List ℕ). xs ++ rest) s.inner ∙ quoted-regroup a.name s.left s.right a.value rest s.quote in
-    let n : Named own a.name a.value rest = record { left = s.left; right = s.right; quote = s.quote; named = s.named; spaced = s.spaced; is_one = s.value.0; all = s.value.1; spelled = spelled } in
-    let read = parts-again s.before own a.name a.value rest s.parted.0 s.parted.1 n in
+    let spelled : own ≡ a.name ++ (s.left ++ (61 ∷ (s.right ++ (s.quote ∷ (s.written ++ (s.quote ∷ rest)))))) = ap (λ (xs : List ℕ). xs ++ rest) s.inner ∙ quoted-regroup a.name s.left s.right s.written rest s.quote in
+    let n : Named own a.name s.written rest = record { left = s.left; right = s.right; quote = s.quote; named = s.named; spaced = s.spaced; is_one = s.inside.0; all = s.inside.1; spelled = spelled } in
+    let read = parts-again s.before own a.name s.written rest s.parted.0 s.parted.1 n in
     let whole : front ++ rest ≡ s.before ++ own = ap (λ (xs : List ℕ). xs ++ rest) s.all ∙ append_assoc s.before s.quoted rest in
     let long : length own ≡ length s.quoted + length rest = length-append s.quoted rest in
     let all : length front ≡ length s.before + length s.quoted = ap (λ (xs : List ℕ). length xs) s.all ∙ length-append s.before s.quoted in
     let sum : at + (length s.before + (length s.quoted + length rest)) ≡ last = omega arith in
     let span : span_between last own rest ≡ a.span = rw long (span-same last at (length s.before) (length s.quoted) (length rest) sum) ∙ sym s.span in
-    rw (whole, read) (ap (λ (w : Span). let r : Option (Attribute × List ℕ) = Some (record { name = a.name; value = a.value; span = w }, rest) in r) span)
+    rw (whole, read, written-again s.written a.value s.value) (ap (λ (w : Span). let r : Option (Attribute × List ℕ) = Some (record { name = a.name; value = a.value; span = w }, rest) in r) span)
 
 -- these attributes stand at this offset, before those bytes
 abbrev StandAt : ℕ → List ℕ → List Attribute × List ℕ → Type 0

@@ -1,31 +1,24 @@
 -- Bytes stand for one tree at most: their tokens are settled, and so is the tree by what begins and ends in it.
-use Rattle.std.proofs.Common.{◌≡◌, ℕ, ◌+◌, List, [], ◌∷◌, ◌++◌, length, map, refl, ap, sym, subst, ◌∙◌, append_assoc}
-use Rattle.std.specs.Prelude.{⊤}
+use Rattle.std.proofs.Common.{◌≡◌, ◌<◌, ℕ, ◌+◌, List, [], ◌∷◌, ◌++◌, length, map, refl, ap, sym, subst, ◌∙◌, arith, append_assoc, append-nil, Some}
+use Rattle.std.specs.Prelude.{⊤, fold}
 use Rattle.std.specs.List.{flat_map}
 use Rattle.std.proofs.lemmas.List.Concat.{flat_map-append}
+use Rattle.std.proofs.lemmas.List.Sums.{fold-append}
 use Rattle.plcx_types.specs.declared.span.Span.{Span}
-use Rattle.plcx_xml.specs.Grammar.{AreTokens}
-use Rattle.plcx_xml.specs.Events.{Event, Begin, End, Chars, events_of, events_of_element, node_events, element_events, token_events, kind_events}
-use Rattle.plcx_xml.specs.StandsForTree.{IsBlankKind, AreBlank, StandsForTree}
+use Rattle.plcx_xml.specs.Grammar.{StandsAt, AreTokens}
+use Rattle.plcx_xml.specs.Events.{Event, Begin, End, Chars, events_of, events_of_element, node_events, element_events, token_events, kind_events, with_event, after_one, both_texts, joined}
+use Rattle.plcx_xml.specs.StandsForTree.{IsBlankKind, AreBlank, HasTokens, StandsForTree}
 use Rattle.plcx_xml.specs.declared.token.Token.{Token}
 use Rattle.plcx_xml.specs.declared.token.Kind.{Kind}
 use Rattle.plcx_xml.specs.declared.token.Kind.TheVariants as kind
 use Rattle.plcx_xml.specs.declared.tree.Attribute.{Attribute}
 use Rattle.plcx_xml.specs.declared.tree.Text.{Text}
-use Rattle.plcx_xml.specs.declared.tree.Node.{Node, fold-roll-Node, ind-Node, roll-Node}
+use Rattle.plcx_xml.specs.declared.tree.Node.{Node, ind-Node, roll-Node}
 use Rattle.plcx_xml.specs.declared.tree.Node.TheFolds.{map-Node, map-Element}
 use Rattle.plcx_xml.specs.declared.tree.Node.TheOpen.{Node-F, Element-F}
-use Rattle.plcx_xml.specs.declared.tree.Element.{Element, roll-Element, fold-roll-Element, ind-Element}
-use Rattle.plcx_xml.proofs.TokenLaws.{StandsHere, token-again}
-use Rattle.plcx_xml.proofs.Reached.{back-step, ended}
-
-pub tokens-one : (at : ℕ) (bytes : List ℕ) (ts us : List Token) → AreTokens at bytes ts → AreTokens at bytes us → ts ≡ us
-tokens-one at bytes [] us h k = sym (ended at bytes us h k)
-tokens-one at bytes (t ∷ ts) us h k =
-    let here : StandsHere at bytes t h.1 = record { text = h.0; spelled = h.3; whole = h.5; split = h.2; spanned = h.4 } in
-    let read = token-again (at + length bytes) at bytes t h.1 here refl in
-    let b = back-step (at + length bytes) at bytes h.1 t here read refl us k in
-    ap (λ (xs : List Token). t ∷ xs) (tokens-one (at + length h.0) h.1 ts b.0 h.6 b.2) ∙ sym b.1
+use Rattle.plcx_xml.specs.declared.tree.Element.{Element, roll-Element, ind-Element}
+use Rattle.plcx_xml.proofs.OneFile.{file-tokens-one}
+use Rattle.plcx_xml.proofs.Views.{around, node-element, node-text, element-around, view-node, view-element}
 
 -- a list of events that goes on with something that begins
 abbrev Opens : List Event → Type 0
@@ -40,25 +33,6 @@ BeginsOne [] = ⊥
 BeginsOne (Begin name attributes start ∷ es) = ⊤
 BeginsOne (End name end ∷ es) = ⊥
 BeginsOne (Chars value span ∷ es) = ⊥
-
-abbrev around : List ℕ → List Attribute → ℕ → ℕ → List Node → List Event
-around name attributes start end children = Begin name attributes start ∷ (flat_map (λ (es : List Event). es) (map events_of children) ++ End name end ∷ [])
-
-node-element : (e : Element) → events_of (roll-Node (Node-F.Element e)) ≡ events_of_element e
-node-element e = fold-roll-Node (List Event) (List Event) node_events element_events (Node-F.Element e)
-
-node-text : (t : Text) → events_of (roll-Node (Node-F.Text t)) ≡ Chars t.value t.span ∷ []
-node-text t = fold-roll-Node (List Event) (List Event) node_events element_events (Node-F.Text t)
-
-element-around : (x : Element-F Node Element) → events_of_element (roll-Element x) ≡ around x.name x.attributes x.span.start x.span.end x.children
-element-around x = fold-roll-Element (List Event) (List Event) node_events element_events x
-
--- what a node or an element is made of
-view-node : (n : Node) → (x : Node-F Node Element) × (n ≡ roll-Node x)
-view-node = ind-Node (λ n. (x : Node-F Node Element) × (n ≡ roll-Node x)) (λ e. (x : Element-F Node Element) × (e ≡ roll-Element x)) (λ x y is. (x, refl)) (λ x y is. (x, refl))
-
-view-element : (e : Element) → (x : Element-F Node Element) × (e ≡ roll-Element x)
-view-element = ind-Element (λ n. (x : Node-F Node Element) × (n ≡ roll-Node x)) (λ e. (x : Element-F Node Element) × (e ≡ roll-Element x)) (λ x y is. (x, refl)) (λ x y is. (x, refl))
 
 element-begins : (e : Element) (more : List Event) → BeginsOne (events_of_element e ++ more)
 element-begins e more =
@@ -184,40 +158,130 @@ element-case y d xs ys h =
 element-one : (e : Element) → ElementOne e
 element-one = ind-Element NodeOne ElementOne (λ x y is. subst (λ (z : Node-F Node Element). NodeOne (roll-Node z)) is (node-case y)) (λ x y is. subst (λ (z : Element-F Node Element). ElementOne (roll-Element z)) is (element-case y))
 
-blank-chars : (k : Kind) (span : Span) → IsBlankKind k → (value : List ℕ) × (kind_events k span ≡ Chars value span ∷ [])
-blank-chars (kind.Start name attributes) span h = absurd h
-blank-chars (kind.Empty name attributes) span h = absurd h
-blank-chars (kind.End name) span h = absurd h
-blank-chars (kind.Text value) span h = (value, refl)
+-- nothing but texts
+abbrev AreChars : List Event → Type 0
+AreChars [] = ⊤
+AreChars (Begin name attributes start ∷ es) = ⊥
+AreChars (End name end ∷ es) = ⊥
+AreChars (Chars value span ∷ es) = AreChars es
 
--- blank tokens end where an element begins
-blank-front : (t : Token) (ts : List Token) (p : List Event) → IsBlankKind t.kind → (value : List ℕ) × (flat_map token_events (t ∷ ts) ++ p ≡ Chars value t.span ∷ (flat_map token_events ts ++ p))
-blank-front t ts p h =
-    let b = blank-chars t.kind t.span h in
-    (b.0, ap (λ (es : List Event). (es ++ flat_map token_events ts) ++ p) b.1)
+blank-events : (k : Kind) (span : Span) (es : List Event) → IsBlankKind k → AreChars es → AreChars (kind_events k span ++ es)
+blank-events (kind.Start name attributes) span es h c = absurd h
+blank-events (kind.Empty name attributes) span es h c = absurd h
+blank-events (kind.End name) span es h c = absurd h
+blank-events (kind.Text value) span es h c = c
+blank-events (kind.Reference value) span es h c = absurd h
+blank-events (kind.Cdata value) span es h c = absurd h
+blank-events kind.Comment span es h c = c
+blank-events kind.Instruction span es h c = c
+
+blank-chars : (ts : List Token) → AreBlank ts → AreChars (flat_map token_events ts)
+blank-chars [] h = tt
+blank-chars (t ∷ ts) h = blank-events t.kind t.span (flat_map token_events ts) h.0 (blank-chars ts h.1)
 
 chars-tail : (v w : List ℕ) (s t : Span) (xs ys : List Event) → ◌≡◌ {A = List Event} (Chars v s ∷ xs) (Chars w t ∷ ys) → xs ≡ ys
 chars-tail v w s t xs ys h = cc
 
-past-blank : (ts us : List Token) (p q : List Event) → AreBlank ts → AreBlank us → BeginsOne p → BeginsOne q → flat_map token_events ts ++ p ≡ flat_map token_events us ++ q → p ≡ q
-past-blank [] [] p q h k b c e = e
-past-blank [] (u ∷ us) p q h k b c e =
-    let f = blank-front u us q k.0 in
-    absurd (subst BeginsOne (e ∙ f.1) b)
-past-blank (t ∷ ts) [] p q h k b c e =
-    let f = blank-front t ts p h.0 in
-    absurd (subst BeginsOne (sym e ∙ f.1) c)
-past-blank (t ∷ ts) (u ∷ us) p q h k b c e =
-    let f = blank-front t ts p h.0 in
-    let g = blank-front u us q k.0 in
-    past-blank ts us p q h.1 k.1 b c (chars-tail f.0 g.0 t.span u.span (flat_map token_events ts ++ p) (flat_map token_events us ++ q) (sym f.1 ∙ (e ∙ g.1)))
+-- texts end where an element begins
+past-chars : (es fs p q : List Event) → AreChars es → AreChars fs → BeginsOne p → BeginsOne q → es ++ p ≡ fs ++ q → p ≡ q
+past-chars [] [] p q h k b c e = e
+past-chars [] (Begin n a s ∷ fs) p q h k b c e = absurd k
+past-chars [] (End n x ∷ fs) p q h k b c e = absurd k
+past-chars [] (Chars v s ∷ fs) p q h k b c e = absurd (subst BeginsOne e b)
+past-chars (Begin n a s ∷ es) fs p q h k b c e = absurd h
+past-chars (End n x ∷ es) fs p q h k b c e = absurd h
+past-chars (Chars v s ∷ es) [] p q h k b c e = absurd (subst BeginsOne (sym e) c)
+past-chars (Chars v s ∷ es) (Begin n a t ∷ fs) p q h k b c e = absurd k
+past-chars (Chars v s ∷ es) (End n x ∷ fs) p q h k b c e = absurd k
+past-chars (Chars v s ∷ es) (Chars w t ∷ fs) p q h k b c e = past-chars es fs p q h k b c (chars-tail v w s t (es ++ p) (fs ++ q) e)
 
-all-events : (bytes : List ℕ) (a : Element) (s : StandsForTree bytes a) → flat_map token_events (s.before ++ (s.inner ++ s.after)) ≡ flat_map token_events s.before ++ (events_of_element a ++ flat_map token_events s.after)
-all-events bytes a s = flat_map-append token_events s.before (s.inner ++ s.after) ∙ ap (λ (es : List Event). flat_map token_events s.before ++ es) (flat_map-append token_events s.inner s.after ∙ ap (λ (es : List Event). es ++ flat_map token_events s.after) s.same)
+-- what is joined begins as it did
+with-begins : (es : List Event) (f : Event) → BeginsOne (with_event es f) → (0 < length es) → BeginsOne es
+with-begins [] f b l = absurd (omega arith)
+with-begins (Begin n a s ∷ es) f b l = tt
+with-begins (End n x ∷ []) f b l = absurd b
+with-begins (End n x ∷ (e ∷ es)) f b l = absurd b
+with-begins (Chars v s ∷ []) (Begin n a t) b l = absurd b
+with-begins (Chars v s ∷ []) (End n x) b l = absurd b
+with-begins (Chars v s ∷ []) (Chars w t) b l = absurd b
+with-begins (Chars v s ∷ (e ∷ es)) f b l = absurd b
+
+with-long : (es : List Event) (f : Event) → 0 < length (with_event es f)
+with-long [] f = omega arith
+with-long (Begin n a s ∷ []) f = omega arith
+with-long (End n x ∷ []) f = omega arith
+with-long (Chars v s ∷ []) (Begin n a t) = omega arith
+with-long (Chars v s ∷ []) (End n x) = omega arith
+with-long (Chars v s ∷ []) (Chars w t) = omega arith
+with-long (e ∷ (g ∷ es)) f = omega arith
+
+fold-begins : (fs es : List Event) → 0 < length es → BeginsOne (fold with_event es fs) → BeginsOne es
+fold-begins [] es l b = b
+fold-begins (f ∷ fs) es l b = with-begins es f (fold-begins fs (with_event es f) (with-long es f) b) l
+
+one-begins : (e : Event) (es : List Event) → BeginsOne (e ∷ []) → BeginsOne (e ∷ es)
+one-begins (Begin n a s) es b = tt
+one-begins (End n x) es b = absurd b
+one-begins (Chars v s) es b = absurd b
+
+joined-begins : (es : List Event) → BeginsOne (joined es) → BeginsOne es
+joined-begins [] b = b
+joined-begins (e ∷ es) b = one-begins e es (fold-begins es (e ∷ []) (omega arith) b)
+
+begins-more : (es fs : List Event) → BeginsOne es → BeginsOne (es ++ fs)
+begins-more [] fs b = absurd b
+begins-more (Begin n a s ∷ es) fs b = tt
+begins-more (End n x ∷ es) fs b = absurd b
+begins-more (Chars v s ∷ es) fs b = absurd b
+
+-- what stands in front changes nothing behind an end
+with-behind : (es gs : List Event) (f : Event) → 0 < length gs → with_event (es ++ gs) f ≡ es ++ with_event gs f
+with-behind [] gs f l = refl
+with-behind (e ∷ []) [] f l = absurd (omega arith)
+with-behind (e ∷ []) (g ∷ gs) f l = refl
+with-behind (e ∷ (d ∷ es)) gs f l = ap (λ (xs : List Event). e ∷ xs) (with-behind (d ∷ es) gs f l)
+
+fold-behind : (fs es gs : List Event) → 0 < length gs → fold with_event (es ++ gs) fs ≡ es ++ fold with_event gs fs
+fold-behind [] es gs l = refl
+fold-behind (f ∷ fs) es gs l = ap (λ (xs : List Event). fold with_event xs fs) (with-behind es gs f l) ∙ fold-behind fs es (with_event gs f) (with-long gs f)
+
+end-apart : (n : List ℕ) (x : ℕ) (fs : List Event) → (more : List Event) × (fold with_event (End n x ∷ []) fs ≡ End n x ∷ more)
+end-apart n x [] = ([], refl)
+end-apart n x (f ∷ fs) = (fold with_event (f ∷ []) fs, fold-behind fs (End n x ∷ []) (f ∷ []) (omega arith))
+
+-- an element, and what is joined behind it
+element-apart : (e : Element) (fs : List Event) → (more : List Event) × (fold with_event (events_of_element e) fs ≡ events_of_element e ++ more)
+element-apart e fs =
+    let v = view-element e in
+    let same : events_of_element e ≡ around v.0.name v.0.attributes v.0.span.start v.0.span.end v.0.children = ap events_of_element v.1 ∙ element-around v.0 in
+    let front = Begin v.0.name v.0.attributes v.0.span.start ∷ flat_map (λ (es : List Event). es) (map events_of v.0.children) in
+    let own : events_of_element e ≡ front ++ End v.0.name v.0.span.end ∷ [] = same in
+    let tail = end-apart v.0.name v.0.span.end fs in
+    let all : fold with_event (events_of_element e) fs ≡ (front ++ End v.0.name v.0.span.end ∷ []) ++ tail.0 =
+        ap (λ (xs : List Event). fold with_event xs fs) own ∙ (fold-behind fs front (End v.0.name v.0.span.end ∷ []) (omega arith) ∙ (ap (λ (xs : List Event). front ++ xs) tail.1 ∙ sym (append_assoc front (End v.0.name v.0.span.end ∷ []) tail.0))) in
+    (tail.0, all ∙ ap (λ (xs : List Event). xs ++ tail.0) (sym own))
+
+abbrev own : (bytes : List ℕ) (a : Element) → StandsForTree bytes a → List Event
+own bytes a s = flat_map token_events s.inner ++ flat_map token_events s.after
+
+own-begins : (bytes : List ℕ) (a : Element) (s : StandsForTree bytes a) → BeginsOne (own bytes a s)
+own-begins bytes a s =
+    let begins : BeginsOne (events_of_element a) = subst BeginsOne (append-nil (events_of_element a)) (element-begins a []) in
+    begins-more (flat_map token_events s.inner) (flat_map token_events s.after) (joined-begins (flat_map token_events s.inner) (subst BeginsOne (sym s.same) begins))
+
+own-joined : (bytes : List ℕ) (a : Element) (s : StandsForTree bytes a) → (more : List Event) × (joined (own bytes a s) ≡ events_of_element a ++ more)
+own-joined bytes a s =
+    let e = element-apart a (flat_map token_events s.after) in
+    (e.0, fold-append with_event [] (flat_map token_events s.inner) (flat_map token_events s.after) ∙ (ap (λ (xs : List Event). fold with_event xs (flat_map token_events s.after)) s.same ∙ e.1))
+
+all-events : (bytes : List ℕ) (a : Element) (s : StandsForTree bytes a) → flat_map token_events (s.before ++ (s.inner ++ s.after)) ≡ flat_map token_events s.before ++ own bytes a s
+all-events bytes a s = flat_map-append token_events s.before (s.inner ++ s.after) ∙ ap (λ (es : List Event). flat_map token_events s.before ++ es) (flat_map-append token_events s.inner s.after)
 
 pub tree-one : (bytes : List ℕ) (a b : Element) → StandsForTree bytes a → StandsForTree bytes b → a ≡ b
 tree-one bytes a b s t =
-    let tokens = tokens-one 0 bytes (s.before ++ (s.inner ++ s.after)) (t.before ++ (t.inner ++ t.after)) s.tokens t.tokens in
+    let tokens = file-tokens-one bytes (s.before ++ (s.inner ++ s.after)) (t.before ++ (t.inner ++ t.after)) s.tokens t.tokens in
     let events = sym (all-events bytes a s) ∙ (ap (flat_map token_events) tokens ∙ all-events bytes b t) in
-    let own = past-blank s.before t.before (events_of_element a ++ flat_map token_events s.after) (events_of_element b ++ flat_map token_events t.after) s.alone.0 t.alone.0 (element-begins a (flat_map token_events s.after)) (element-begins b (flat_map token_events t.after)) events in
-    (element-one a b (flat_map token_events s.after) (flat_map token_events t.after) own).0
+    let same = past-chars (flat_map token_events s.before) (flat_map token_events t.before) (own bytes a s) (own bytes b t) (blank-chars s.before s.alone.0) (blank-chars t.before t.alone.0) (own-begins bytes a s) (own-begins bytes b t) events in
+    let x = own-joined bytes a s in
+    let y = own-joined bytes b t in
+    (element-one a b x.0 y.0 (sym x.1 ∙ (ap joined same ∙ y.1))).0

@@ -1,57 +1,27 @@
--- How far reading has come, and what that says of any tree the bytes stand for.
-use Rattle.std.proofs.Common.{◌≡◌, ◌<◌, ℕ, ◌+◌, Bool, true, false, List, [], ◌∷◌, ◌++◌, length, refl, ap, sym, subst, ◌∙◌, arith, None, Some, append_assoc, append-nil, length-append}
+-- How far reading has come, token by token.
+use Rattle.std.proofs.Common.{◌≡◌, ◌<◌, ◌≤◌, ℕ, ◌+◌, ◌-◌, Bool, true, false, List, [], ◌∷◌, ◌++◌, length, take, drop, refl, ap, sym, subst, ◌∙◌, ◌⊎◌, inl, inr, arith, cond, None, Some, append_assoc, append-nil, length-append, length-drop}
 use Rattle.std.specs.declared.option.Option.{Option}
-use Rattle.std.specs.List.{flat_map}
-use Rattle.std.proofs.lemmas.List.Concat.{flat_map-append}
-use Rattle.plcx_xml.specs.Grammar.{SpellsTag, SpellsKind, AreTokens}
+use Rattle.std.specs.Str.{bytes_eq}
+use Rattle.std.proofs.lemmas.Slice.Eq.{bytes_eq-Decides}
+use Rattle.plcx_types.specs.declared.span.Span.{Span}
+use Rattle.plcx_xml.specs.Grammar.{SpellsTag, SpellsKind, StandsAt, AreTokens}
 use Rattle.plcx_xml.specs.Reading.{◌>>=◌}
 use Rattle.plcx_xml.specs.Reads.{token_at}
-use Rattle.plcx_xml.specs.Events.{Event, events_of_element, token_events}
-use Rattle.plcx_xml.specs.Nesting.{Place, settled, run, outset}
-use Rattle.plcx_xml.specs.Built.{kept_events}
-use Rattle.plcx_xml.specs.StandsForTree.{AreBlank, IsTreeOf}
+use Rattle.plcx_xml.specs.Events.{Event}
+use Rattle.plcx_xml.specs.Nesting.{Place, outset, step, run, any_depth, below_limit}
+use Rattle.plcx_xml.specs.Built.{State, Going, Deep, Broken, state_of, names_of, built_events, next, went, held, with_token, Keeps, PartsOf, Holds, Reached}
+use Rattle.plcx_xml.specs.StandsForTree.{mark_len, BeginsWith}
+use Rattle.plcx_xml.specs.Faults.{IsFirstRefused}
 use Rattle.plcx_xml.specs.declared.tree.Attribute.{Attribute}
-use Rattle.plcx_xml.specs.declared.tree.Element.{Element}
 use Rattle.plcx_xml.specs.declared.token.Token.{Token}
 use Rattle.plcx_xml.specs.declared.token.Kind.{Kind}
 use Rattle.plcx_xml.specs.declared.token.Kind.TheVariants as kind
+use Rattle.plcx_xml.specs.declared.building.Build.{Build}
+use Rattle.plcx_xml.specs.declared.building.Build.TheVariants as build
 use Rattle.plcx_xml.proofs.Steps.{bind_some, some_inj, some-none}
-use Rattle.plcx_xml.proofs.TokenLaws.{StandsHere, token-sound, token-again}
-use Rattle.plcx_xml.proofs.TreeRuns.{run-append, root-runs, root-depth}
-use Rattle.plcx_xml.proofs.TreeParts.{PartsOf, parts-step, blank-kind}
-
-pub record Reached (bytes rest : List ℕ) (p : Place) (events : List Event) : Type 0 where
-  pub done : List Token
-  pub at : ℕ
-  pub offset : at + length rest ≡ length bytes
-  -- tokens of the rest make tokens of the whole, and the other way round
-  pub forward : (us : List Token) → AreTokens at rest us → AreTokens 0 bytes (done ++ us)
-  pub back : (ts : List Token) → AreTokens 0 bytes ts → (us : List Token) × (ts ≡ done ++ us) × AreTokens at rest us
-  pub ran : run (flat_map token_events done) outset ≡ Some p
-  pub parts : PartsOf done events p.names p.closed
-
-pub reached-outset : (bytes : List ℕ) (p : Place) (events : List Event) → p ≡ outset → events ≡ [] → Reached bytes bytes p events
-reached-outset bytes p events h e =
-    let found : Reached bytes bytes outset events = record {
-      done = [];
-      at = 0;
-      offset = omega arith;
-      forward = λ us k. k;
-      back = λ ts k. (ts, refl, k);
-      ran = refl;
-      parts = (tt, e);
-    } in
-    subst (λ (q : Place). Reached bytes bytes q events) (sym h) found
-
-run-more : (done : List Token) (t : Token) (us : List Token) (p : Place) → run (flat_map token_events done) outset ≡ Some p → run (flat_map token_events (done ++ t ∷ us)) outset ≡ (run (token_events t) p >>= run (flat_map token_events us))
-run-more done t us p h =
-    ap (λ (es : List Event). run es outset) (flat_map-append token_events done (t ∷ us))
-    ∙ (run-append (flat_map token_events done) (token_events t ++ flat_map token_events us) outset
-    ∙ (ap (λ (o : Option Place). o >>= run (token_events t ++ flat_map token_events us)) h
-    ∙ run-append (token_events t) (flat_map token_events us) p))
-
-run-one : (done : List Token) (t : Token) (p q : Place) → run (flat_map token_events done) outset ≡ Some p → run (token_events t) p ≡ Some q → run (flat_map token_events (done ++ t ∷ [])) outset ≡ Some q
-run-one done t p q h k = run-more done t [] p h ∙ ap (λ (o : Option Place). o >>= run []) k
+use Rattle.plcx_xml.proofs.TokenLaws.{token-sound, token-again}
+use Rattle.plcx_xml.proofs.TreeParts.{parts-step}
+use Rattle.plcx_xml.proofs.Links.{run-split, run-any}
 
 tag-long : (at : ℕ) (name : List ℕ) (attributes : List Attribute) (close text : List ℕ) → SpellsTag at name attributes close text → 0 < length text
 tag-long at name attributes close text s =
@@ -65,125 +35,126 @@ spelled-long at (kind.End name) text s =
     let e : length text ≡ length (60 ∷ 47 ∷ (name ++ (s.space ++ 62 ∷ []))) = ap (λ (xs : List ℕ). length xs) s.all in
     omega arith
 spelled-long at (kind.Text value) text s = let e : length text ≡ length value = ap (λ (xs : List ℕ). length xs) s.0 in let some = s.1 in omega arith
-
-pub here-parted : (at : ℕ) (bytes : List ℕ) (t : Token) (rest : List ℕ) (h : StandsHere at bytes t rest) → (0 < length h.text) × (length bytes ≡ length h.text + length rest)
-here-parted at bytes t rest h = (spelled-long at t.kind h.text h.spelled, ap (λ (xs : List ℕ). length xs) h.split ∙ length-append h.text rest)
-
--- the tokens from here begin with what is read here
-pub back-step : (last at : ℕ) (rest after : List ℕ) (t : Token) (h : StandsHere at rest t after) → token_at last rest ≡ Some (t, after) → at + length rest ≡ last → (us : List Token) → AreTokens at rest us → (more : List Token) × (us ≡ t ∷ more) × AreTokens (at + length h.text) after more
-back-step last at rest after t h r l [] k =
-    let parted = here-parted at rest t after h in
-    let none : length rest ≡ 0 = ap (λ (xs : List ℕ). length xs) k in
-    absurd (omega arith)
-back-step last at rest after t h r l (u ∷ us) k =
-    let other : StandsHere at rest u k.1 = record { text = k.0; spelled = k.3; whole = k.5; split = k.2; spanned = k.4 } in
-    let read = token-again last at rest u k.1 other l in
-    let same : ◌≡◌ {A = Token × List ℕ} (u, k.1) (t, after) = some_inj (u, k.1) (t, after) (sym read ∙ r) in
-    let token : u ≡ t = ap (λ (x : Token × List ℕ). x.0) same in
-    let rests : k.1 ≡ after = ap (λ (x : Token × List ℕ). x.1) same in
-    let one = here-parted at rest t after h in
-    let two = here-parted at rest u k.1 other in
-    let long : length k.1 ≡ length after = ap (λ (xs : List ℕ). length xs) rests in
-    let texts : at + length k.0 ≡ at + length h.text = omega arith in
-    let more : AreTokens (at + length k.0) after us = subst (λ (xs : List ℕ). AreTokens (at + length k.0) xs us) rests k.6 in
-    (us, ap (λ (x : Token). x ∷ us) token, subst (λ (n : ℕ). AreTokens n after us) texts more)
-
--- one more token
-pub reached-step : (bytes rest after : List ℕ) (p q : Place) (events more : List Event) (t : Token) → Reached bytes rest p events → token_at (length bytes) rest ≡ Some (t, after) → run (token_events t) p ≡ Some q → more ≡ events ++ kept_events p.names t.kind t.span → Reached bytes after q more
-reached-step bytes rest after p q events more t m r s e =
-    let here = token-sound (length bytes) m.at rest t after r m.offset in
-    let parted = here-parted m.at rest t after here in
-    let offset = m.offset in
-    record {
-      done = m.done ++ t ∷ [];
-      at = m.at + length here.text;
-      offset = omega arith;
-      forward = λ us k. subst (AreTokens 0 bytes) (sym (append_assoc m.done (t ∷ []) us)) (m.forward (t ∷ us) (here.text, after, here.split, here.spelled, here.spanned, here.whole, k));
-      back = λ ts k.
-          let b = m.back ts k in
-          let n = back-step (length bytes) m.at rest after t here r m.offset b.0 b.2 in
-          (n.0, b.1 ∙ (ap (λ (us : List Token). m.done ++ us) n.1 ∙ sym (append_assoc m.done (t ∷ []) n.0)), n.2);
-      ran = run-one m.done t p q m.ran s;
-      parts = parts-step m.done events more p q t m.parts s e;
-    }
-
-pub reached-shorter : (bytes rest after : List ℕ) (p : Place) (events : List Event) (t : Token) → Reached bytes rest p events → token_at (length bytes) rest ≡ Some (t, after) → length after < length rest
-reached-shorter bytes rest after p events t m r =
-    let here = token-sound (length bytes) m.at rest t after r m.offset in
-    let parted = here-parted m.at rest t after here in
+spelled-long at (kind.Reference value) text s =
+    let e : length text ≡ length (38 ∷ (s.1.name ++ (59 ∷ []))) = ap (λ (xs : List ℕ). length xs) s.1.all in
+    omega arith
+spelled-long at (kind.Cdata value) text s =
+    let e : length text ≡ length (60 ∷ 33 ∷ 91 ∷ 67 ∷ 68 ∷ 65 ∷ 84 ∷ 65 ∷ 91 ∷ (value ++ (93 ∷ 93 ∷ 62 ∷ []))) = ap (λ (xs : List ℕ). length xs) s.all in
+    omega arith
+spelled-long at kind.Comment text s =
+    let e : length text ≡ length (60 ∷ 33 ∷ 45 ∷ 45 ∷ (s.0 ++ (45 ∷ 45 ∷ 62 ∷ []))) = ap (λ (xs : List ℕ). length xs) s.1.all in
+    omega arith
+spelled-long at kind.Instruction text s =
+    let e : length text ≡ length (60 ∷ 63 ∷ (s.0 ++ (63 ∷ 62 ∷ []))) = ap (λ (xs : List ℕ). length xs) s.1.all in
     omega arith
 
-blank-run : (ts : List Token) (c : Bool) → AreBlank ts → run (flat_map token_events ts) (record { names = []; closed = c }) ≡ Some (record { names = []; closed = c })
-blank-run [] c h = refl
-blank-run (t ∷ ts) c h =
-    run-append (token_events t) (flat_map token_events ts) (record { names = []; closed = c })
-    ∙ (ap (λ (o : Option Place). o >>= run (flat_map token_events ts)) (blank-kind t.kind t.span c h.0) ∙ blank-run ts c h.1)
+pub here-parted : (at : ℕ) (bytes : List ℕ) (t : Token) (rest : List ℕ) (h : StandsAt at bytes t rest) → (0 < length h.text) × (length bytes ≡ length h.text + length rest) × (t.span.end ≡ at + length h.text)
+here-parted at bytes t rest h = (spelled-long at t.kind h.text h.spelled, ap (λ (xs : List ℕ). length xs) h.split ∙ length-append h.text rest, ap (λ (s : Span). s.end) h.spanned)
 
--- a tree with what is blank around it
-around-run : (before inner after : List Token) (root : Element) → AreBlank before → AreBlank after → flat_map token_events inner ≡ events_of_element root → run (flat_map token_events (before ++ (inner ++ after))) outset ≡ (run (events_of_element root) outset >>= run (flat_map token_events after))
-around-run before inner after root b a s =
-    ap (λ (es : List Event). run es outset) (flat_map-append token_events before (inner ++ after) ∙ ap (λ (es : List Event). flat_map token_events before ++ es) (flat_map-append token_events inner after ∙ ap (λ (es : List Event). es ++ flat_map token_events after) s))
-    ∙ (run-append (flat_map token_events before) (events_of_element root ++ flat_map token_events after) outset
-    ∙ (ap (λ (o : Option Place). o >>= run (events_of_element root ++ flat_map token_events after)) (blank-run before false b)
-    ∙ run-append (events_of_element root) (flat_map token_events after) outset))
+pub offset-next : (last at : ℕ) (bytes : List ℕ) (t : Token) (rest : List ℕ) → StandsAt at bytes t rest → at + length bytes ≡ last → t.span.end + length rest ≡ last
+offset-next last at bytes t rest h l =
+    let p = here-parted at bytes t rest h in
+    omega arith
 
--- the tokens of a tree
-pub tree-through : (bytes : List ℕ) (root : Element) → IsTreeOf bytes root → (ts : List Token) × AreTokens 0 bytes ts × (run (flat_map token_events ts) outset ≡ Some (settled []))
-tree-through bytes root h =
-    let s = h.stands in
-    (s.before ++ (s.inner ++ s.after), s.tokens, around-run s.before s.inner s.after root s.alone.0 s.alone.1 s.same ∙ (ap (λ (o : Option Place). o >>= run (flat_map token_events s.after)) (root-runs root h.depth) ∙ blank-run s.after true s.alone.1))
+tokens-short : (at : ℕ) (bytes : List ℕ) (ts : List Token) (rest : List ℕ) → AreTokens at bytes ts rest → length rest ≤ length bytes
+tokens-short at bytes [] rest h = let e : length bytes ≡ length rest = ap (λ (xs : List ℕ). length xs) h in omega arith
+tokens-short at bytes (t ∷ ts) rest h =
+    let p = here-parted at bytes t h.0 h.1 in
+    let s = tokens-short t.span.end h.0 ts rest h.2 in
+    omega arith
 
--- no token stands there
-pub reached-none : (bytes rest : List ℕ) (p : Place) (events : List Event) → Reached bytes rest p events → token_at (length bytes) rest ≡ None → 0 < length rest → (root : Element) → IsTreeOf bytes root → ⊥
-reached-none bytes rest p events m r some root h =
-    let tree = tree-through bytes root h in
-    let b = m.back tree.0 tree.1 in
-    of b.0 b.2
+tokens-snoc : (last at : ℕ) (bytes : List ℕ) (ts : List Token) (rest : List ℕ) (t : Token) (after : List ℕ) → AreTokens at bytes ts rest → at + length bytes ≡ last → token_at last rest ≡ Some (t, after) → AreTokens at bytes (ts ++ t ∷ []) after
+tokens-snoc last at bytes [] rest t after h l r = (after, token-sound last at bytes t after (ap (token_at last) h ∙ r) l, refl)
+tokens-snoc last at bytes (u ∷ us) rest t after h l r = (h.0, h.1, tokens-snoc last u.span.end h.0 us rest t after h.2 (offset-next last at bytes u h.0 h.1 l) r)
+
+three : (bytes : List ℕ) → take 3 bytes ≡ 0xEF ∷ 0xBB ∷ 0xBF ∷ [] → 3 ≤ length bytes
+three [] h = let no : ⊥ = cc in absurd no
+three (a ∷ []) h = let no : ⊥ = cc in absurd no
+three (a ∷ (b ∷ [])) h = let no : ⊥ = cc in absurd no
+three (a ∷ (b ∷ (c ∷ xs))) h = omega arith
+
+pub mark-within : (bytes : List ℕ) → mark_len bytes ≤ length bytes
+mark-within bytes = of (bytes_eq (take 3 bytes) (0xEF ∷ 0xBB ∷ 0xBF ∷ [])) refl
   where
-    of : (us : List Token) → AreTokens m.at rest us → ⊥
-    of [] k = let none : length rest ≡ 0 = ap (λ (xs : List ℕ). length xs) k in absurd (omega arith)
-    of (u ∷ us) k =
-        let other : StandsHere m.at rest u k.1 = record { text = k.0; spelled = k.3; whole = k.5; split = k.2; spanned = k.4 } in
-        some-none (token_at (length bytes) rest) (u, k.1) (token-again (length bytes) m.at rest u k.1 other m.offset) r
+    of : (b : Bool) → bytes_eq (take 3 bytes) (0xEF ∷ 0xBB ∷ 0xBF ∷ []) ≡ b → cond b 3 0 ≤ length bytes
+    of true e = three bytes ((bytes_eq-Decides (take 3 bytes) (0xEF ∷ 0xBB ∷ 0xBF ∷ [])).0 e)
+    of false e = omega arith
 
--- the token that stands there may not follow
-pub reached-refused : (bytes rest after : List ℕ) (p : Place) (events : List Event) (t : Token) → Reached bytes rest p events → token_at (length bytes) rest ≡ Some (t, after) → run (token_events t) p ≡ None → (root : Element) → IsTreeOf bytes root → ⊥
-reached-refused bytes rest after p events t m r s root h =
-    let tree = tree-through bytes root h in
-    let b = m.back tree.0 tree.1 in
-    let here = token-sound (length bytes) m.at rest t after r m.offset in
-    let n = back-step (length bytes) m.at rest after t here r m.offset b.0 b.2 in
-    let all : tree.0 ≡ m.done ++ t ∷ n.0 = b.1 ∙ ap (λ (us : List Token). m.done ++ us) n.1 in
-    let none : run (flat_map token_events tree.0) outset ≡ None = ap (λ (ts : List Token). run (flat_map token_events ts) outset) all ∙ (run-more m.done t n.0 p m.ran ∙ ap (λ (o : Option Place). o >>= run (flat_map token_events n.0)) s) in
-    some-none (run (flat_map token_events tree.0) outset) (settled []) tree.2 none
+pub mark-offset : (bytes : List ℕ) → mark_len bytes + length (drop (mark_len bytes) bytes) ≡ length bytes
+mark-offset bytes = let m = mark-within bytes in let d = length-drop (mark_len bytes) bytes in omega arith
 
-pub ended : (at : ℕ) (rest : List ℕ) (us : List Token) → rest ≡ [] → AreTokens at rest us → us ≡ []
-ended at rest [] e k = refl
-ended at rest (u ∷ us) e k =
-    let other : StandsHere at rest u k.1 = record { text = k.0; spelled = k.3; whole = k.5; split = k.2; spanned = k.4 } in
-    let parted = here-parted at rest u k.1 other in
-    let none : length rest ≡ 0 = ap (λ (xs : List ℕ). length xs) e in
-    absurd (omega arith)
+pub front-short : (whole : List ℕ) (ts : List Token) (rest : List ℕ) → BeginsWith whole ts rest → length rest ≤ length whole
+front-short whole ts rest h =
+    let s = tokens-short (mark_len whole) (drop (mark_len whole) whole) ts rest h in
+    let m = mark-offset whole in
+    omega arith
 
--- nothing is left, and the root is not closed
-pub reached-open : (bytes rest : List ℕ) (p : Place) (events : List Event) → Reached bytes rest p events → rest ≡ [] → p.closed ≡ false → (root : Element) → IsTreeOf bytes root → ⊥
-reached-open bytes rest p events m e c root h =
-    let tree = tree-through bytes root h in
-    let b = m.back tree.0 tree.1 in
-    let all : tree.0 ≡ m.done = b.1 ∙ (ap (λ (us : List Token). m.done ++ us) (ended m.at rest b.0 e b.2) ∙ append-nil m.done) in
-    let ends : ◌≡◌ {A = Option Place} (Some (settled [])) (Some p) = sym tree.2 ∙ (ap (λ (ts : List Token). run (flat_map token_events ts) outset) all ∙ m.ran) in
-    let place : settled [] ≡ p = some_inj (settled []) p ends in
-    let both : true ≡ false = ap (λ (q : Place). q.closed) place ∙ c in
-    cc
+-- the next token is shorter than what is left
+pub token-shorter : (whole rest after : List ℕ) (b : Build) (t : Token) → Reached whole rest b → token_at (length whole) rest ≡ Some (t, after) → length after < length rest
+token-shorter whole rest after b t m r =
+    let s = front-short whole m.done rest m.front in
+    let here = token-sound (length whole) (length whole - length rest) rest t after r (omega arith) in
+    let p = here-parted (length whole - length rest) rest t after here in
+    omega arith
 
--- nothing is left, and the root is closed
-pub reached-closed : (bytes rest : List ℕ) (root : Element) → Reached bytes rest (settled []) (events_of_element root) → rest ≡ [] → IsTreeOf bytes root
-reached-closed bytes rest root m e =
-    let o = m.parts in
-    let all : AreTokens 0 bytes m.done = subst (AreTokens 0 bytes) (append-nil m.done) (m.forward [] e) in
-    let ran : run (flat_map token_events m.done) outset ≡ (run (events_of_element root) outset >>= run (flat_map token_events o.after)) = ap (λ (ts : List Token). run (flat_map token_events ts) outset) o.parted ∙ around-run o.before o.inner o.after root o.alone.0 o.alone.1 o.same in
-    let b = bind_some (run (events_of_element root) outset) (run (flat_map token_events o.after)) (settled []) (sym ran ∙ m.ran) in
+-- where none is read none stands
+pub token-none : (whole rest : List ℕ) (ts : List Token) → BeginsWith whole ts rest → token_at (length whole) rest ≡ None → (t : Token) (after : List ℕ) → StandsAt (length whole - length rest) rest t after → ⊥
+token-none whole rest ts h r t after here =
+    let s = front-short whole ts rest h in
+    some-none (token_at (length whole) rest) (t, after) (token-again (length whole) (length whole - length rest) rest t after here (omega arith)) r
+
+first-more : (allows : ℕ → Bool) (ts us : List Token) (at : ℕ) → IsFirstRefused allows ts at → IsFirstRefused allows (ts ++ us) at
+first-more allows ts us at f = record {
+  before = f.before;
+  token = f.token;
+  after = f.after ++ us;
+  place = f.place;
+  parted = ap (λ (xs : List Token). xs ++ us) f.parted ∙ append_assoc f.before (f.token ∷ f.after) us;
+  ran = f.ran;
+  refused = f.refused;
+  start = f.start;
+}
+
+first-here : (allows : ℕ → Bool) (done : List Token) (p : Place) (t : Token) → run allows done outset ≡ Some p → step allows p t.kind ≡ None → IsFirstRefused allows (done ++ t ∷ []) t.span.start
+first-here allows done p t r s = record { before = done; token = t; after = []; place = p; parted = refl; ran = r; refused = s; start = refl }
+
+run-one : (allows : ℕ → Bool) (done : List Token) (t : Token) (p q : Place) → run allows done outset ≡ Some p → step allows p t.kind ≡ Some q → run allows (done ++ t ∷ []) outset ≡ Some q
+run-one allows done t p q h k =
+    run-split allows done (t ∷ []) outset ∙ (ap (λ (o : Option Place). o >>= run allows (t ∷ [])) h ∙ ap (λ (o : Option Place). o >>= run allows []) k)
+
+deep-step : (done : List Token) (events : List Event) (p : Place) (deep : ℕ) (t : Token) (o : Option Place) → run any_depth done outset ≡ Some p → IsFirstRefused below_limit (done ++ t ∷ []) deep → step any_depth p t.kind ≡ o → Holds (done ++ t ∷ []) events (held o deep t.span.start)
+deep-step done events p deep t (Some q) r f e = (run-one any_depth done t p q r e, f)
+deep-step done events p deep t None r f e = first-here any_depth done p t r e
+
+going-step : (done : List Token) (events : List Event) (p : Place) (t : Token) (o : Option Place) → run below_limit done outset ≡ Some p → PartsOf done events p.names p.closed → step below_limit p t.kind ≡ o → Holds (done ++ t ∷ []) (with_token events p.names t.kind t.span) (went o (step any_depth p t.kind) t.span.start)
+going-step done events p t (Some q) r h e = (run-one below_limit done t p q r e, parts-step done events p q t h e)
+going-step done events p t None r h e =
+    deep-step done (with_token events p.names t.kind t.span) p t.span.start t (step any_depth p t.kind) (run-any done outset p r) (first-here below_limit done p t r e) refl
+
+holds-step : (done : List Token) (events : List Event) (s : State) (t : Token) → Holds done events s → Holds (done ++ t ∷ []) (with_token events (names_of s) t.kind t.span) (next s t.kind t.span.start)
+holds-step done events (Going p) t h = going-step done events p t (step below_limit p t.kind) h.0 h.1 refl
+holds-step done events (Deep p deep) t h =
+    deep-step done (with_token events p.names t.kind t.span) p deep t (step any_depth p t.kind) h.0 (first-more below_limit done (t ∷ []) deep h.1) refl
+holds-step done events (Broken at) t h = first-more any_depth done (t ∷ []) at h
+
+holds-built : (done : List Token) (es : List Event) (b : Build) → Keeps b es → Holds done es (state_of b) → Holds done (built_events b) (state_of b)
+holds-built done es (build.Open frames) k h = rw k h
+holds-built done es (build.Closed root) k h = rw k h
+holds-built done es (build.Deep names at) k h = h
+holds-built done es (build.Broken at) k h = h
+
+-- one more token
+pub reached-step : (whole rest after : List ℕ) (b new : Build) (t : Token) → Reached whole rest b → token_at (length whole) rest ≡ Some (t, after) → state_of new ≡ next (state_of b) t.kind t.span.start → Keeps new (with_token (built_events b) (names_of (state_of b)) t.kind t.span) → Reached whole after new
+reached-step whole rest after b new t m r s k =
+    let es = with_token (built_events b) (names_of (state_of b)) t.kind t.span in
+    let moved : Holds (m.done ++ t ∷ []) es (state_of new) = subst (Holds (m.done ++ t ∷ []) es) (sym s) (holds-step m.done (built_events b) (state_of b) t m.holds) in
     record {
-      stands = record { before = o.before; inner = o.inner; after = o.after; tokens = subst (AreTokens 0 bytes) o.parted all; alone = o.alone; same = o.same };
-      depth = root-depth root b.0 b.1;
+      done = m.done ++ t ∷ [];
+      front = tokens-snoc (length whole) (mark_len whole) (drop (mark_len whole) whole) m.done rest t after m.front (mark-offset whole) r;
+      holds = holds-built (m.done ++ t ∷ []) es new k moved;
     }
+
+pub reached-outset : (whole rest : List ℕ) (b : Build) → drop (mark_len whole) whole ≡ rest → state_of b ≡ Going outset → built_events b ≡ [] → Reached whole rest b
+reached-outset whole rest b r s e =
+    let own : Holds [] (built_events b) (Going outset) = (refl, (tt, e)) in
+    record { done = []; front = r; holds = subst (Holds [] (built_events b)) (sym s) own }

@@ -92,6 +92,9 @@ pub text-again : (value rest : List ℕ) → 0 < length value → list_all is_te
 text-again value rest some all h =
     rw (starts-again is_text (value ++ rest) (heads_append is_text value rest (long-heads is_text value some all))) (ap (λ (q : List ℕ × List ℕ). let r : Option (List ℕ × List ℕ) = Some q in r) (run-again is_text value rest all h))
 
+pub text-not : (bytes : List ℕ) → Stops is_text bytes → text_at bytes ≡ None
+text-not bytes h = rw (starts-not is_text bytes h) refl
+
 pub some-none : {A : Type 0} (o : Option A) (x : A) → o ≡ Some x → o ≡ None → ⊥
 some-none None x h k = let no : ⊥ = cc in no
 some-none (Some y) x h k = let no : ⊥ = cc in no

@@ -96,6 +96,15 @@ end-not-begin name rest n =
       byte-not 47 (name ++ rest) (stops_at_head is_first (λ x. nat_eq x 47) (name ++ rest) first-slash (heads_append is_first name rest n.0)),
     ) refl
 
+-- what begins with `<` and another character is neither
+pub end-not-slash : (x : ℕ) (rest : List ℕ) → nat_eq x 47 ≡ false → end_at (60 ∷ (x ∷ rest)) ≡ None
+unfolding end_at
+end-not-slash x rest h = rw (byte-again 60 (x ∷ rest), byte-not 47 (x ∷ rest) h) refl
+
+pub begin-not-name : (x : ℕ) (rest : List ℕ) → is_first x ≡ false → begin_at (60 ∷ (x ∷ rest)) ≡ None
+unfolding begin_at
+begin-not-name x rest h = rw (byte-again 60 (x ∷ rest)) (name-not (x ∷ rest) h)
+
 pub record EndName (bytes name rest : List ℕ) : Type 0 where
   pub space : List ℕ
   pub named : IsName name

@@ -148,23 +148,23 @@ named-of own name after v rest n e w = record {
   spelled = e ∙ ap (λ (xs : List ℕ). name ++ xs) w.spelled;
 }
 
-named-sound : (own : List ℕ) (p : Parts) → named_at own ≡ Some p → Named own p.name p.value p.rest × (p.own ≡ own)
+named-sound : (own : List ℕ) (p : Parts) → named_at own ≡ Some p → Named own p.name p.written p.rest × (p.own ≡ own)
 unfolding named_at
 named-sound own p h =
-    let f2 : List ℕ → List ℕ × List ℕ → Option Parts = λ name value. Some (record { name = name; value = value.0; own = own; rest = value.1 }) in
+    let f2 : List ℕ → List ℕ × List ℕ → Option Parts = λ name value. Some (record { name = name; written = value.0; own = own; rest = value.1 }) in
     let f1 : List ℕ × List ℕ → Option Parts = λ name. value_at name.1 >>= f2 name.0 in
     let a = bind_some (name_at own) f1 p h in
     let b = bind_some (value_at a.0.1) (f2 a.0.0) p a.2 in
-    let same : record { name = a.0.0; value = b.0.0; own = own; rest = b.0.1 } ≡ p = some_inj (record { name = a.0.0; value = b.0.0; own = own; rest = b.0.1 }) p b.2 in
+    let same : record { name = a.0.0; written = b.0.0; own = own; rest = b.0.1 } ≡ p = some_inj (record { name = a.0.0; written = b.0.0; own = own; rest = b.0.1 }) p b.2 in
     let n = name-sound own a.0.0 a.0.1 a.1 in
     let v = value-sound a.0.1 b.0.0 b.0.1 b.1 in
     let found : Named own a.0.0 b.0.0 b.0.1 = named-of own a.0.0 a.0.1 b.0.0 b.0.1 n.0 n.1 v in
-    (subst (λ (r : Parts). Named own r.name r.value r.rest) same found, ap (λ (r : Parts). r.own) (sym same))
+    (subst (λ (r : Parts). Named own r.name r.written r.rest) same found, ap (λ (r : Parts). r.own) (sym same))
 
 next-space : (x : ℕ) → is_space x ≡ true → is_next x ≡ false
 next-space = space-apart is_next refl refl refl refl
 
-named-again : (own name v rest : List ℕ) → Named own name v rest → named_at own ≡ Some (record { name = name; value = v; own = own; rest = rest })
+named-again : (own name v rest : List ℕ) → Named own name v rest → named_at own ≡ Some (record { name = name; written = v; own = own; rest = rest })
 unfolding named_at
 named-again own name v rest n =
     let after = n.left ++ (61 ∷ (n.right ++ (n.quote ∷ (v ++ (n.quote ∷ rest))))) in
@@ -175,21 +175,21 @@ named-again own name v rest n =
 first-space : (x : ℕ) → is_first x ≡ true → is_space x ≡ false
 first-space = apart is_space is_first (space-apart is_first refl refl refl refl)
 
-pub parts-sound : (bytes : List ℕ) (p : Parts) → parts_at bytes ≡ Some p → (before : List ℕ) × (0 < length before) × IsSpace before × (bytes ≡ before ++ p.own) × Named p.own p.name p.value p.rest
+pub parts-sound : (bytes : List ℕ) (p : Parts) → parts_at bytes ≡ Some p → (before : List ℕ) × (0 < length before) × IsSpace before × (bytes ≡ before ++ p.own) × Named p.own p.name p.written p.rest
 parts-sound bytes p h =
     let found = guard_some (starts is_space bytes) (named_at (behind_space bytes)) p h in
     let run = run-sound is_space bytes in
     let some = run-heads is_space bytes (starts-sound is_space bytes found.0) in
     let n = named-sound (behind_space bytes) p found.1 in
     let before = (run_at is_space bytes).0 in
-    (before, heads-long is_space before some, run.0, run.2 ∙ ap (λ (xs : List ℕ). before ++ xs) (sym n.1), subst (λ (xs : List ℕ). Named xs p.name p.value p.rest) (sym n.1) n.0)
+    (before, heads-long is_space before some, run.0, run.2 ∙ ap (λ (xs : List ℕ). before ++ xs) (sym n.1), subst (λ (xs : List ℕ). Named xs p.name p.written p.rest) (sym n.1) n.0)
 
 named-stops : (own name v rest : List ℕ) → Named own name v rest → Stops is_space own
 named-stops own name v rest n =
     let after = n.left ++ (61 ∷ (n.right ++ (n.quote ∷ (v ++ (n.quote ∷ rest))))) in
     subst (Stops is_space) (sym n.spelled) (stops_at_head is_first is_space (name ++ after) first-space (heads_append is_first name after n.named.0))
 
-pub parts-again : (before own name v rest : List ℕ) → 0 < length before → IsSpace before → Named own name v rest → parts_at (before ++ own) ≡ Some (record { name = name; value = v; own = own; rest = rest })
+pub parts-again : (before own name v rest : List ℕ) → 0 < length before → IsSpace before → Named own name v rest → parts_at (before ++ own) ≡ Some (record { name = name; written = v; own = own; rest = rest })
 parts-again before own name v rest some blank n =
     rw (
       starts-again is_space (before ++ own) (heads_append is_space before own (long-heads is_space before some blank)),

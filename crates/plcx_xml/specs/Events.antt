@@ -29,14 +29,39 @@ events_of = fold-Node (List Event) (List Event) node_events element_events
 abbrev pub events_of_element : Element → List Event
 events_of_element = fold-Element (List Event) (List Event) node_events element_events
 
+-- a reference and a CDATA section are text; comments and instructions are nothing
 abbrev pub kind_events : Kind → Span → List Event
 kind_events (kind.Start name attributes) span = Begin name attributes span.start ∷ []
 kind_events (kind.Empty name attributes) span = Begin name attributes span.start ∷ End name span.end ∷ []
 kind_events (kind.End name) span = End name span.end ∷ []
 kind_events (kind.Text value) span = Chars value span ∷ []
+kind_events (kind.Reference value) span = Chars value span ∷ []
+kind_events (kind.Cdata value) span = Chars value span ∷ []
+kind_events kind.Comment span = []
+kind_events kind.Instruction span = []
 
 abbrev pub token_events : Token → List Event
 token_events t = kind_events t.kind t.span
+
+-- a text that follows a text at once
+abbrev pub both_texts : List ℕ → Span → Event → List Event
+both_texts value span (Chars more over) = Chars (value ++ more) (record { start = span.start; end = over.end }) ∷ []
+both_texts value span (Begin name attributes start) = Chars value span ∷ Begin name attributes start ∷ []
+both_texts value span (End name end) = Chars value span ∷ End name end ∷ []
+
+abbrev pub after_one : Event → Event → List Event
+after_one (Chars value span) next = both_texts value span next
+after_one (Begin name attributes start) next = Begin name attributes start ∷ next ∷ []
+after_one (End name end) next = End name end ∷ next ∷ []
+
+abbrev pub with_event : List Event → Event → List Event
+with_event [] next = next ∷ []
+with_event (e ∷ []) next = after_one e next
+with_event (e ∷ (f ∷ es)) next = e ∷ with_event (f ∷ es) next
+
+-- texts that follow each other are one
+abbrev pub joined : List Event → List Event
+joined es = fold with_event [] es
 
 abbrev pub node_depth : Node-F ℕ ℕ → ℕ
 node_depth (Node-F.Element n) = n

@@ -1,11 +1,13 @@
 pub mod Look
 pub mod Character
+pub mod Reference
 pub mod Grammar
 pub mod Events
+pub mod Nesting
 pub mod StandsForTree
+pub mod Faults
 pub mod Reading
 pub mod RawParts
+pub mod Pieces
 pub mod Reads
-pub mod Nesting
-pub mod Refuses
 pub mod Built

@@ -3,4 +3,4 @@ use Rattle.plcx_xml.specs.declared.lexing.RawAttribute.{RawAttribute}
 
 -- the bytes that an attribute's slices hold
 abbrev pub parts_of : RawAttribute → Parts
-parts_of r = record { name = r.name.now; value = r.value.now; own = r.own.now; rest = r.rest.now }
+parts_of r = record { name = r.name.now; written = r.written.now; own = r.own.now; rest = r.rest.now }

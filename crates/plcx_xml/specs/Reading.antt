@@ -2,7 +2,9 @@
 use Rattle.std.specs.Prelude.{ℕ, Bool, true, false, List, length, take, drop, slice_index, nat_eq, nat_lt, ◌&&◌, None, Some, if◌then◌else◌}
 use Rattle.std.specs.declared.option.Option.{Option}
 use Rattle.std.specs.List.{prefix_len}
-use Rattle.plcx_xml.specs.Character.{is_space, is_first, is_next, is_text, is_value}
+use Rattle.plcx_xml.specs.Character.{is_space, is_first, is_next, is_text, is_value, is_named}
+use Rattle.plcx_xml.specs.Grammar.{begins_with, until}
+use Rattle.plcx_xml.specs.Reference.{character_named}
 
 infixl 10 ◌>>=◌
 abbrev pub ◌>>=◌ : {A B : Type 0} → Option A → (A → Option B) → Option B
@@ -44,10 +46,10 @@ value_at bytes = do
   right ← byte_at 61 (behind_space bytes)
   quoted_at (behind_space right)
 
--- an attribute's parts, the bytes from its name on, and those behind it
+-- an attribute's parts, what its value is written as, the bytes from its name on, and those behind it
 pub record Parts : Type 0 where
   pub name : List ℕ
-  pub value : List ℕ
+  pub written : List ℕ
   pub own : List ℕ
   pub rest : List ℕ
 
@@ -55,7 +57,7 @@ unfoldable pub named_at : List ℕ → Option Parts
 named_at own = do
   name ← name_at own
   value ← value_at name.1
-  Some (record { name = name.0; value = value.0; own = own; rest = value.1 })
+  Some (record { name = name.0; written = value.0; own = own; rest = value.1 })
 
 abbrev pub parts_at : List ℕ → Option Parts
 parts_at bytes = if starts is_space bytes then named_at (behind_space bytes) else None
@@ -84,3 +86,19 @@ end_at bytes = do
   inside ← byte_at 60 bytes
   name ← byte_at 47 inside
   end_name_at name
+
+-- the character that a reference stands for
+unfoldable pub reference_at : List ℕ → Option (ℕ × List ℕ)
+reference_at bytes = do
+  inside ← byte_at 38 bytes
+  rest ← byte_at 59 (run_at is_named inside).1
+  c ← character_named (run_at is_named inside).0
+  Some (c, rest)
+
+-- what follows these bytes
+abbrev pub behind : List ℕ → List ℕ → Option (List ℕ)
+behind front bytes = if begins_with front bytes then Some (drop (length front) bytes) else None
+
+-- what stands between these two
+abbrev pub enclosed_at : List ℕ → List ℕ → List ℕ → Option (List ℕ × List ℕ)
+enclosed_at open_ close bytes = behind open_ bytes >>= until close

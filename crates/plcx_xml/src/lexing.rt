@@ -2,8 +2,9 @@
 ghost use Rattle.std.specs.Prelude.{◌≡◌, ◌≤◌, length};
 ghost use Rattle.std.specs.Option.{option_map};
 ghost use Rattle.std.specs.List.{prefix_len, list_all};
-ghost use Rattle.plcx_xml.specs.Character.{is_character, is_space, is_first, is_next, is_text, is_value};
-ghost use Rattle.plcx_xml.specs.Reading.{byte_at, behind_space, name_at, text_at, quoted_by, quoted_at, value_at, named_at, parts_at, close_at, begin_at, end_name_at, end_at};
+ghost use Rattle.plcx_xml.specs.Character.{is_space, is_first, is_next, is_text, is_value, is_plain, is_named};
+ghost use Rattle.plcx_xml.specs.Reading.{byte_at, behind_space, name_at, text_at, quoted_by, quoted_at, value_at, named_at, parts_at, close_at, begin_at, end_name_at, end_at, behind, enclosed_at};
+ghost use Rattle.plcx_xml.specs.Grammar.{begins_with, until};
 ghost use Rattle.plcx_xml.specs.RawParts.{parts_of};
 
 fn is_space(byte: u8) -> bool
@@ -12,16 +13,10 @@ fn is_space(byte: u8) -> bool
     byte == b' ' || byte == b'\t' || byte == b'\r' || byte == b'\n'
 }
 
-fn is_character(byte: u8) -> bool
-    ensures { result ≡ is_character byte }
-{
-    is_space(byte) || (byte >= 32 && byte <= 127)
-}
-
 fn is_first(byte: u8) -> bool
     ensures { result ≡ is_first byte }
 {
-    byte.is_ascii_alphabetic() || byte == b'_' || byte == b':'
+    byte.is_ascii_alphabetic() || byte == b'_' || byte == b':' || byte >= 128
 }
 
 fn is_next(byte: u8) -> bool
@@ -33,13 +28,25 @@ fn is_next(byte: u8) -> bool
 fn is_text(byte: u8) -> bool
     ensures { result ≡ is_text byte }
 {
-    is_character(byte) && byte != b'<' && byte != b'&'
+    byte != b'<' && byte != b'&'
 }
 
 fn is_value(quote: u8, byte: u8) -> bool
     ensures { result ≡ is_value quote byte }
 {
-    is_text(byte) && byte != quote
+    byte != b'<' && byte != quote
+}
+
+fn is_plain(byte: u8) -> bool
+    ensures { result ≡ is_plain byte }
+{
+    byte != b'&'
+}
+
+fn is_named(byte: u8) -> bool
+    ensures { result ≡ is_named byte }
+{
+    byte != b';'
 }
 
 fn space_len(bytes: &[u8]) -> usize
@@ -73,7 +80,22 @@ fn value_len(quote: u8, bytes: &[u8]) -> usize
         .count()
 }
 
-fn byte_of(byte: u8, bytes: &[u8]) -> Option<&[u8]>
+/// How many bytes stand before the next `&`.
+pub fn plain_len(bytes: &[u8]) -> usize
+    ensures value { result ≡ prefix_len is_plain bytes.now }
+    ensures within { result ≤ length bytes.now }
+{
+    bytes.iter().take_while(|byte| is_plain(**byte)).count()
+}
+
+pub fn named_len(bytes: &[u8]) -> usize
+    ensures value { result ≡ prefix_len is_named bytes.now }
+    ensures within { result ≤ length bytes.now }
+{
+    bytes.iter().take_while(|byte| is_named(**byte)).count()
+}
+
+pub fn byte_of(byte: u8, bytes: &[u8]) -> Option<&[u8]>
     ensures { option_map (λ p. p.now) result ≡ byte_at byte bytes.now }
 {
     if !bytes.is_empty() && bytes[0] == byte {
@@ -141,7 +163,7 @@ fn value_of(bytes: &[u8]) -> Option<(&[u8], &[u8])>
 #[derive(Clone, Copy)]
 pub struct RawAttribute<'a> {
     pub name: &'a [u8],
-    pub value: &'a [u8],
+    pub written: &'a [u8],
     pub own: &'a [u8],
     pub rest: &'a [u8],
 }
@@ -151,10 +173,10 @@ fn named_of(own: &[u8]) -> Option<RawAttribute<'_>>
     ensures { option_map parts_of result ≡ named_at own.now }
 {
     let (name, after) = name_of(own)?;
-    let (value, rest) = value_of(after)?;
+    let (written, rest) = value_of(after)?;
     Some(RawAttribute {
         name,
-        value,
+        written,
         own,
         rest,
     })
@@ -213,4 +235,46 @@ pub fn is_blank(bytes: &[u8]) -> bool
     ensures { result ≡ list_all is_space bytes.now }
 {
     bytes.iter().all(|byte| is_space(*byte))
+}
+
+/// Whether bytes begin with those.
+fn begins_with(front: &[u8], bytes: &[u8]) -> bool
+    ensures { result ≡ begins_with front.now bytes.now }
+{
+    bytes.len() >= front.len() && &bytes[..front.len()] == front
+}
+
+fn behind<'a>(front: &[u8], bytes: &'a [u8]) -> Option<&'a [u8]>
+    ensures { option_map (λ p. p.now) result ≡ behind front.now bytes.now }
+{
+    if begins_with(front, bytes) {
+        Some(&bytes[front.len()..])
+    } else {
+        None
+    }
+}
+
+/// What stands before the first `close`, and what follows it.
+fn until<'a>(close: &[u8], bytes: &'a [u8]) -> Option<(&'a [u8], &'a [u8])>
+    ensures { option_map (λ p. (p.0.now, p.1.now)) result ≡ until close.now bytes.now }
+{
+    for at in 0..bytes.len() {
+        let (body, after) = bytes.split_at(at);
+        if begins_with(close, after) {
+            let (_, rest) = after.split_at(close.len());
+            return Some((body, rest));
+        }
+    }
+    None
+}
+
+/// What stands between these two, and what follows.
+pub fn enclosed_of<'a>(
+    opening: &[u8],
+    close: &[u8],
+    bytes: &'a [u8],
+) -> Option<(&'a [u8], &'a [u8])>
+    ensures { option_map (λ p. (p.0.now, p.1.now)) result ≡ enclosed_at opening.now close.now bytes.now }
+{
+    until(close, behind(opening, bytes)?)
 }

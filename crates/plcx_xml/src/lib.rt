@@ -6,16 +6,20 @@
 #![tactic(auto)]
 
 mod building;
+mod error;
+mod front;
 mod laws;
 mod lexing;
 mod look;
 mod reading;
+mod reference;
 mod token;
 mod tokens;
 mod tree;
+mod value;
 
-pub use building::XmlError;
-pub use laws::one_tree;
+pub use error::XmlError;
+pub use laws::{no_tree, one_tree};
 pub use reading::read_tree;
 pub use token::{Kind, Token};
 pub use tree::{Attribute, Element, Node, Text};

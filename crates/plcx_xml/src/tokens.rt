@@ -1,11 +1,13 @@
 //! The token at the front of bytes, with the memory that it takes.
 ghost use Rattle.std.specs.Prelude.{◌≡◌, IfOk};
 ghost use Rattle.std.specs.Option.{option_map};
-ghost use Rattle.plcx_xml.specs.Reads.{span_between, attribute_at, attributes_at, end_token, text_token, tag_token, token_at};
+ghost use Rattle.plcx_xml.specs.Reads.{span_between, attribute_at, attributes_at, end_token, text_token, tag_token, reference_token, comment_token, instruction_token, cdata_token, other_token, token_at};
 
-use crate::lexing::{begin_of, behind_space, close_of, end_of, parts_of, text_of};
+use crate::lexing::{begin_of, behind_space, close_of, enclosed_of, end_of, parts_of, text_of};
+use crate::reference::reference_of;
 use crate::token::{Kind, Token};
 use crate::tree::Attribute;
+use crate::value::value_of;
 use plcx_types::Span;
 use sqlite_items::Items;
 use std::alloc::{AllocError, Global};
@@ -29,9 +31,12 @@ fn attribute_of(
     match parts_of(bytes) {
         None => Ok(None),
         Some(parts) => {
+            let Some(value) = value_of(alloc, parts.written)? else {
+                return Ok(None);
+            };
             let attribute = Attribute {
                 name: Items::from_slice(alloc, parts.name)?,
-                value: Items::from_slice(alloc, parts.value)?,
+                value,
                 span: span_between(last, parts.own, parts.rest),
             };
             Ok(Some((attribute, parts.rest)))
@@ -122,6 +127,87 @@ fn tag_token_of(
     Ok(Some((Token { kind, span }, rest)))
 }
 
+fn reference_token_of(
+    alloc: Global,
+    last: u64,
+    bytes: &[u8],
+) -> Result<Option<(Token, &[u8])>, AllocError>
+    ensures { IfOk result (λ found. option_map (λ p. (p.0, p.1.now)) found ≡ reference_token last bytes.now) }
+{
+    match reference_of(bytes) {
+        None => Ok(None),
+        Some((character, rest)) => {
+            let mut buffer = [0; 4];
+            let value = character.encode_utf8(&mut buffer).as_bytes();
+            let token = Token {
+                kind: Kind::Reference(Items::from_slice(alloc, value)?),
+                span: span_between(last, bytes, rest),
+            };
+            Ok(Some((token, rest)))
+        }
+    }
+}
+
+fn comment_token_of(last: u64, bytes: &[u8]) -> Option<(Token, &[u8])>
+    ensures { option_map (λ p. (p.0, p.1.now)) result ≡ comment_token last bytes.now }
+{
+    let (_, rest) = enclosed_of(b"<!--", b"-->", bytes)?;
+    let token = Token {
+        kind: Kind::Comment,
+        span: span_between(last, bytes, rest),
+    };
+    Some((token, rest))
+}
+
+fn instruction_token_of(last: u64, bytes: &[u8]) -> Option<(Token, &[u8])>
+    ensures { option_map (λ p. (p.0, p.1.now)) result ≡ instruction_token last bytes.now }
+{
+    let (_, rest) = enclosed_of(b"<?", b"?>", bytes)?;
+    let token = Token {
+        kind: Kind::Instruction,
+        span: span_between(last, bytes, rest),
+    };
+    Some((token, rest))
+}
+
+fn cdata_token_of(
+    alloc: Global,
+    last: u64,
+    bytes: &[u8],
+) -> Result<Option<(Token, &[u8])>, AllocError>
+    ensures { IfOk result (λ found. option_map (λ p. (p.0, p.1.now)) found ≡ cdata_token last bytes.now) }
+{
+    match enclosed_of(b"<![CDATA[", b"]]>", bytes) {
+        None => Ok(None),
+        Some((value, rest)) => {
+            let token = Token {
+                kind: Kind::Cdata(Items::from_slice(alloc, value)?),
+                span: span_between(last, bytes, rest),
+            };
+            Ok(Some((token, rest)))
+        }
+    }
+}
+
+fn other_token_of(
+    alloc: Global,
+    last: u64,
+    bytes: &[u8],
+) -> Result<Option<(Token, &[u8])>, AllocError>
+    ensures { IfOk result (λ found. option_map (λ p. (p.0, p.1.now)) found ≡ other_token last bytes.now) }
+{
+    if let Some(found) = reference_token_of(alloc, last, bytes)? {
+        return Ok(Some(found));
+    }
+    if let Some(found) = comment_token_of(last, bytes) {
+        return Ok(Some(found));
+    }
+    if let Some(found) = instruction_token_of(last, bytes) {
+        return Ok(Some(found));
+    }
+    cdata_token_of(alloc, last, bytes)
+}
+
 /// The token that the bytes of a file of that length begin with, and what follows it.
 pub fn token_of(
     alloc: Global,
@@ -136,5 +222,8 @@ pub fn token_of(
     if let Some(found) = tag_token_of(alloc, last, bytes)? {
         return Ok(Some(found));
     }
-    text_token_of(alloc, last, bytes)
+    if let Some(found) = text_token_of(alloc, last, bytes)? {
+        return Ok(Some(found));
+    }
+    other_token_of(alloc, last, bytes)
 }

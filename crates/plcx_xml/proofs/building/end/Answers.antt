@@ -1,6 +1,11 @@
+use Rattle.std.proofs.Common.{List, refl, subst}
+use Rattle.std.specs.Prelude.{IfOk}
+use Rattle.plcx_xml.specs.Built.{Keeps}
+use Rattle.plcx_xml.specs.Events.{Event}
 use Rattle.plcx_xml.proofs.Closing.{closed-events, names-same}
 use Rattle.plcx_xml.proofs.building.end.Goals as goal
 
 pub returns-clause-events : goal.returns-clause-events
 returns-clause-events c =
-    closed-events _ _ _ _ _ _ c.in-Some.ensures.items (names-same _ _ _ c.as_slice.ensures c.if-ne.ensures) c.in_ok-put_element.ensures.events
+    subst (λ (es : List Event). IfOk c.put_element.result (λ b. Keeps b es))
+        (closed-events _ _ _ _ _ _ c.in-Some.ensures.items (names-same _ _ _ c.as_slice.ensures c.if-ne.ensures) refl) c.put_element.ensures.events
