@@ -1,7 +1,8 @@
 -- Drafts whose names break no rule, and their projects.
-use Rattle.std.proofs.Common.{◌≡◌, ℕ, suc, Bool, true, false, ◌&&◌, ◌||◌, not, List, [], ◌∷◌, ◌++◌, length, map, None, refl, sym, ap, ◌∙◌, arith}
+use Rattle.std.proofs.Common.{◌≡◌, ℕ, suc, Bool, true, false, ◌&&◌, ◌||◌, not, List, [], ◌∷◌, ◌++◌, length, map, reverse, None, append_assoc, length-append, refl, sym, ap, ◌∙◌, arith}
 use Rattle.std.specs.List.{list_all, flat_map}
 use Rattle.std.proofs.lemmas.List.Folds.{list_all-map}
+use Rattle.std.proofs.lemmas.List.{reverse-append}
 use Rattle.plcx_types.specs.Name.{is_identifier}
 use Rattle.plcx_model.specs.Verdict.{Never, Verdict, Kept, Next}
 use Rattle.plcx_model.specs.declared.project.Pou.{Pou}
@@ -11,7 +12,7 @@ use Rattle.plcx_draft.specs.declared.draft.DraftPou.{DraftPou}
 use Rattle.plcx_draft.specs.declared.draft.Draft.{Draft}
 use Rattle.plcx_profile.specs.declared.judging.DeclarationRule.TheVariants.{Names}
 use Rattle.plcx_profile.specs.declared.settling.Head.{Head}
-use Rattle.plcx_profile.specs.Declared.{Declared, OfVariable, in_list, in_pou, declared_in, name_of}
+use Rattle.plcx_profile.specs.Declarations.{Declared, OfVariable, in_list, in_pou, declared_in, name_of}
 use Rattle.plcx_profile.specs.Fine.{is_fine, is_fine_list, is_fine_pou}
 use Rattle.plcx_profile.specs.Heads.{head_of, with_head, joined}
 use Rattle.plcx_profile.specs.Judged.{breaks, BreaksIn, DeclarationVerdict}
@@ -71,3 +72,14 @@ pub joined_all : (pous ps : List DraftPou) → joined (map (head_of pous) ps) ps
 unfolding pou_of
 joined_all pous [] = refl
 joined_all pous (p ∷ ps) = ap (λ rest. pou_of pous p ∷ rest) (joined_all pous ps)
+
+-- one more head and draft joined
+pub joined_step : (hs : List Head) (ps : List DraftPou) (h : Head) (p : DraftPou) (all total : List Pou) → length (hs ++ h ∷ []) ≡ length (ps ++ p ∷ []) → joined (hs ++ h ∷ []) (ps ++ p ∷ []) ++ reverse all ≡ total
+    → (length hs ≡ length ps) × (joined hs ps ++ reverse (all ++ with_head h p ∷ []) ≡ total)
+joined_step hs ps h p all total same made =
+    let left = length-append hs (h ∷ []) in
+    let right = length-append ps (p ∷ []) in
+    let equal : length hs ≡ length ps = omega arith in
+    (equal,
+     ap (λ r. joined hs ps ++ r) (reverse-append all (with_head h p ∷ [])) ∙ sym (append_assoc (joined hs ps) (with_head h p ∷ []) (reverse all))
+     ∙ ap (λ xs. xs ++ reverse all) (sym (joined_more hs ps h p equal)) ∙ made)

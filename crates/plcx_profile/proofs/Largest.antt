@@ -9,7 +9,7 @@ use Rattle.plcx_draft.specs.declared.draft.DraftList.{DraftList}
 use Rattle.plcx_draft.specs.declared.draft.DraftPou.{DraftPou}
 use Rattle.plcx_profile.specs.declared.sizes.Size.{Size}
 use Rattle.plcx_profile.specs.declared.sizes.Size.TheVariants.{Leaves, Parts}
-use Rattle.plcx_profile.specs.Declared.{Declared, OfPou, OfVariable, in_list, in_pou, start_of}
+use Rattle.plcx_profile.specs.Declarations.{Declared, OfPou, OfVariable, in_list, in_pou, start_of}
 use Rattle.plcx_profile.specs.Rounds.{count_or, first_above}
 use Rattle.plcx_profile.specs.Sizes.{content_of, contents, total, is_too_large, breaks_size}
 

@@ -3,3 +3,4 @@ pub mod Tables
 pub mod Fineness
 pub mod Levels
 pub mod Largest
+pub mod OneProfile

@@ -6,7 +6,7 @@ use Rattle.plcx_profile.specs.declared.judging.DeclarationRule.TheVariants as ru
 use Rattle.plcx_profile.specs.declared.doubling.Once.TheVariants.{PouNames, VariableNames, Addresses}
 use Rattle.plcx_draft.specs.declared.draft.Draft.{Draft}
 use Rattle.plcx_draft.specs.declared.draft.DraftPou.{DraftPou}
-use Rattle.plcx_profile.specs.Declared.{Declared, declared_in, start_of}
+use Rattle.plcx_profile.specs.Declarations.{Declared, declared_in, start_of}
 use Rattle.plcx_profile.specs.Names.{breaks_name, doubles}
 use Rattle.plcx_profile.specs.Types.{breaks_type, breaks_initial}
 use Rattle.plcx_profile.specs.Sizes.{breaks_chain, breaks_size}

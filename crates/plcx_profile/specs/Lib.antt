@@ -1,4 +1,4 @@
-pub mod Declared
+pub mod Declarations
 pub mod Names
 pub mod Blocks
 pub mod Types

@@ -6,7 +6,7 @@ use Rattle.plcx_types.specs.Limits.{max_declared_name_bytes}
 use Rattle.plcx_types.specs.Reserved.{is_reserved}
 use Rattle.plcx_profile.specs.declared.doubling.Once.{Once}
 use Rattle.plcx_profile.specs.declared.doubling.Once.TheVariants.{PouNames, VariableNames, Addresses}
-use Rattle.plcx_profile.specs.Declared.{Declared, OfPou, OfVariable, name_of}
+use Rattle.plcx_profile.specs.Declarations.{Declared, OfPou, OfVariable, name_of}
 use Rattle.plcx_draft.specs.BodyIn.{nonempty}
 
 -- a name is no identifier, too long or reserved

@@ -1,9 +1,10 @@
 -- Serves proofs: what noted texts say of what has stood.
-use Rattle.std.specs.Prelude.{◌≡◌, ℕ, List, Vec, Global}
+use Rattle.std.specs.Prelude.{◌≡◌, ℕ, List, Vec}
+use Rattle.std.specs.declared.alloc.Global.{Global}
 use Rattle.std.specs.List.{list_any}
 use Rattle.std.specs.Str.{bytes_eq}
 use Rattle.plcx_profile.specs.declared.doubling.Once.{Once}
-use Rattle.plcx_profile.specs.Declared.{Declared}
+use Rattle.plcx_profile.specs.Declarations.{Declared}
 use Rattle.plcx_profile.specs.Names.{has_stood}
 
 abbrev pub Notes : Once → List Declared → List (Vec ℕ Global) → Type 0

@@ -4,7 +4,7 @@ use Rattle.std.specs.Str.{bytes_eq}
 use Rattle.std.specs.HashSet.{HashSet, contains_by}
 use Rattle.plcx_profile.specs.declared.declaration.Declaration as code
 use Rattle.plcx_profile.specs.declared.declaration.Declaration.TheVariants as variant
-use Rattle.plcx_profile.specs.Declared.{Declared, OfPou, OfVariable}
+use Rattle.plcx_profile.specs.Declarations.{Declared, OfPou, OfVariable}
 
 abbrev pub shown : code.Declaration → Declared
 shown (variant.Pou p) = OfPou p.now

@@ -17,7 +17,7 @@ use Rattle.plcx_profile.specs.declared.sizes.Size.TheVariants.{Leaves, Parts}
 use Rattle.plcx_draft.specs.declared.draft.DraftVariable.{DraftVariable}
 use Rattle.plcx_draft.specs.declared.draft.DraftList.{DraftList}
 use Rattle.plcx_draft.specs.declared.draft.DraftPou.{DraftPou}
-use Rattle.plcx_profile.specs.Declared.{Declared, OfPou, OfVariable}
+use Rattle.plcx_profile.specs.Declarations.{Declared, OfPou, OfVariable}
 use Rattle.plcx_profile.specs.Types.{type_meant, is_in_out}
 
 -- so many more; no count goes past 2^22, which is more than there may be of anything

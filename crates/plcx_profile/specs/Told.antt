@@ -1,5 +1,6 @@
 -- Serves proofs: what the table of a file's function blocks tells.
-use Rattle.std.specs.Prelude.{◌≡◌, ℕ, Bool, List, Vec, Global, Option, Some, None, if◌then◌else◌}
+use Rattle.std.specs.Prelude.{◌≡◌, ℕ, Bool, List, Vec, Option, Some, None, if◌then◌else◌}
+use Rattle.std.specs.declared.alloc.Global.{Global}
 use Rattle.std.specs.Map.{lookup}
 use Rattle.std.specs.Str.{bytes_eq}
 use Rattle.plcx_draft.specs.declared.draft.DraftPou.{DraftPou}

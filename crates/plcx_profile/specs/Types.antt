@@ -14,7 +14,7 @@ use Rattle.plcx_draft.specs.declared.draft.DraftVariable.{DraftVariable}
 use Rattle.plcx_draft.specs.declared.draft.DraftList.{DraftList}
 use Rattle.plcx_draft.specs.declared.draft.DraftPou.{DraftPou}
 use Rattle.plcx_profile.specs.Blocks.{block_named}
-use Rattle.plcx_profile.specs.Declared.{Declared, OfPou, OfVariable}
+use Rattle.plcx_profile.specs.Declarations.{Declared, OfPou, OfVariable}
 use Rattle.plcx_types.specs.Name.{in_lower_case}
 
 -- a place is a number of 32 bits

@@ -37,24 +37,35 @@ fn is_block(kind: PouKind) -> bool
     kind == PouKind::FunctionBlock
 }
 
-/// One POU more: a function block has its place, where its name has none yet.
-fn with_pou(
-    alloc: Global,
+/// One name more, where it has no place yet.
+fn with_key(
     mut table: IndexMap<Vec<u8>, usize>,
     place: usize,
-    pou: &DraftPou,
+    key: Vec<u8>,
 ) -> Result<IndexMap<Vec<u8>, usize>, AllocError>
-    ensures { IfOk result (λ after. (q : List ℕ) → lookup (λ k. bytes_eq q k.items) after.entries ≡ found_or (lookup (λ k. bytes_eq q k.items) table.entry.entries) (place_if (is_block_named q pou.now) place)) }
+    ensures { IfOk result (λ after. (q : List ℕ) → lookup (λ k. bytes_eq q k.items) after.entries ≡ found_or (lookup (λ k. bytes_eq q k.items) table.entries) (place_if (bytes_eq q key.items) place)) }
 {
-    if !is_block(pou.kind) {
-        return Ok(table);
-    }
-    let key = in_lower_case(alloc, pou.name.as_slice())?;
     if table.contains_key(key.as_slice()) {
         return Ok(table);
     }
     table.insert(key, place)?;
     Ok(table)
+}
+
+/// One POU more: a function block has its place, where its name has none yet.
+fn with_pou(
+    alloc: Global,
+    table: IndexMap<Vec<u8>, usize>,
+    place: usize,
+    pou: &DraftPou,
+) -> Result<IndexMap<Vec<u8>, usize>, AllocError>
+    ensures { IfOk result (λ after. (q : List ℕ) → lookup (λ k. bytes_eq q k.items) after.entries ≡ found_or (lookup (λ k. bytes_eq q k.items) table.entries) (place_if (is_block_named q pou.now) place)) }
+{
+    if !is_block(pou.kind) {
+        return Ok(table);
+    }
+    let key = in_lower_case(alloc, pou.name.as_slice())?;
+    Ok(with_key(table, place, key)?)
 }
 
 fn places_in(

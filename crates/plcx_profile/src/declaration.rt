@@ -2,7 +2,7 @@
 ghost use Rattle.std.specs.Prelude.{◌≡◌, ◌++◌, map, IfOk};
 ghost use Rattle.std.specs.List.{flat_map};
 ghost use Rattle.plcx_profile.specs.Seen.{shown};
-ghost use Rattle.plcx_profile.specs.Declared.{in_list, in_pou, declared_in, start_of, name_of};
+ghost use Rattle.plcx_profile.specs.Declarations.{in_list, in_pou, declared_in, start_of, name_of};
 
 use plcx_draft::{Draft, DraftList, DraftPou, DraftVariable};
 use std::alloc::{AllocError, Global};
@@ -40,7 +40,7 @@ fn with_lists<'a>(
 }
 
 /// All that a file declares, in document order.
-#[tactic(auto, unfolding(crate::specs::Declared::declared_in))]
+#[tactic(auto, unfolding(crate::specs::Declarations::declared_in))]
 pub fn declared_in(alloc: Global, draft: &Draft) -> Result<Vec<Declaration<'_>>, AllocError>
     ensures { IfOk result (λ all. map shown all.items ≡ declared_in draft.now) }
 {

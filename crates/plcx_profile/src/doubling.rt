@@ -5,7 +5,7 @@ ghost use Rattle.std.specs.HashSet.{contains_by};
 ghost use Rattle.plcx_draft.specs.BodyIn.{nonempty};
 ghost use Rattle.plcx_types.specs.Name.{in_lower_case};
 ghost use Rattle.plcx_model.specs.Verdict.{first_breaking};
-ghost use Rattle.plcx_profile.specs.Declared.{Declared, start_of};
+ghost use Rattle.plcx_profile.specs.Declarations.{Declared, start_of};
 ghost use Rattle.plcx_profile.specs.Names.{key_of, begins, has_stood, doubles};
 ghost use Rattle.plcx_profile.specs.Seen.{shown};
 ghost use Rattle.plcx_profile.specs.Noted.{Notes};

@@ -2,7 +2,7 @@
 ghost use Rattle.std.specs.Prelude.{◌≡◌, [], map, option_map, IfOk};
 ghost use Rattle.std.specs.List.{flat_map};
 ghost use Rattle.plcx_model.specs.Verdict.{Verdict, first_breaking};
-ghost use Rattle.plcx_profile.specs.Declared.{in_pou};
+ghost use Rattle.plcx_profile.specs.Declarations.{in_pou};
 ghost use Rattle.plcx_profile.specs.Judged.{breaks, BreaksIn, place_of, DeclarationVerdict};
 ghost use Rattle.plcx_profile.specs.Seen.{shown};
 
@@ -91,7 +91,7 @@ fn first_broken(
 }
 
 /// The first rule that the declarations of a file break, and the byte where the element begins that breaks it first.
-#[tactic(auto, unfolding(crate::specs::Declared::declared_in))]
+#[tactic(auto, unfolding(crate::specs::Declarations::declared_in))]
 pub fn declaration_verdict(
     alloc: Global,
     draft: &Draft,

@@ -10,6 +10,7 @@ mod declaration;
 mod doubling;
 mod error;
 mod judging;
+mod laws;
 mod names;
 mod project;
 mod settling;
@@ -18,4 +19,5 @@ mod types;
 
 pub use error::ProfileError;
 pub use judging::{DeclarationRule, declaration_verdict};
+pub use laws::one_profile_verdict;
 pub use project::project_of;

@@ -1,7 +1,7 @@
 //! The rule on names.
 ghost use Rattle.std.specs.Prelude.{◌≡◌, [], map, option_map};
 ghost use Rattle.plcx_model.specs.Verdict.{first_breaking};
-ghost use Rattle.plcx_profile.specs.Declared.{start_of};
+ghost use Rattle.plcx_profile.specs.Declarations.{start_of};
 ghost use Rattle.plcx_profile.specs.Names.{is_bad_name, breaks_name};
 ghost use Rattle.plcx_profile.specs.Seen.{shown};
 

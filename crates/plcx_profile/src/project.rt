@@ -1,5 +1,6 @@
 //! The project that a tree stands for, or the first rule that it breaks.
-ghost use Rattle.std.specs.Prelude.{◌≡◌, MatchResult};
+ghost use Rattle.std.specs.Prelude.{◌≡◌, None, MatchResult};
+ghost use Rattle.plcx_table.specs.Format.{FormatVerdict};
 ghost use Rattle.plcx_xml.specs.declared.tree.Node.{out-Node};
 ghost use Rattle.plcx_model.specs.declared.broken.Place.TheVariants.{Byte};
 ghost use Rattle.plcx_profile.specs.declared.error.ProfileError.TheVariants as error;
@@ -48,17 +49,24 @@ fn broken(number: u8, byte: u64) -> ProfileError
     })
 }
 
+fn declared_project(alloc: Global, root: &Element) -> Result<Project, ProfileError>
+    requires { FormatVerdict root.now None }
+    ensures { MatchResult result (StandsForProject root.now) (Refuses root.now) }
+{
+    let draft = draft_in(alloc, root)?;
+    match declaration_verdict(alloc, &draft)? {
+        Some((rule, byte)) => Err(broken(declaration_number(rule), byte)),
+        None => Ok(settled(alloc, draft)?),
+    }
+}
+
 fn project_in(alloc: Global, root: &Element) -> Result<Project, ProfileError>
     ensures { MatchResult result (StandsForProject root.now) (Refuses root.now) }
 {
-    if let Some((rule, byte)) = format_verdict(alloc, root)? {
-        return Err(broken(format_number(rule), byte));
+    match format_verdict(alloc, root)? {
+        Some((rule, byte)) => Err(broken(format_number(rule), byte)),
+        None => Ok(declared_project(alloc, root)?),
     }
-    let draft = draft_in(alloc, root)?;
-    if let Some((rule, byte)) = declaration_verdict(alloc, &draft)? {
-        return Err(broken(declaration_number(rule), byte));
-    }
-    Ok(settled(alloc, draft)?)
 }
 
 /// The project that a tree stands for, or the first rule from 4 to 16 that it breaks.

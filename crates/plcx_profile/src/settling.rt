@@ -155,8 +155,8 @@ fn joined(
     mut heads: Vec<Head>,
     mut pous: Items<DraftPou>,
 ) -> Result<Vec<Pou>, NoMemory>
-    requires { length heads.entry.items ≡ length pous.entry }
-    ensures { IfOk result (λ all. all.items ≡ joined heads.entry.items pous.entry) }
+    requires { length heads.items ≡ length pous }
+    ensures { IfOk result (λ all. all.items ≡ joined heads.items pous) }
 {
     let mut all = Vec::new(alloc);
     while let Some(head) = heads.pop() {

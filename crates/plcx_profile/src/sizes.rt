@@ -1,10 +1,10 @@
 //! The rules on how deep instances stand in one another, and on how many leaves and parts a POU has with them.
-ghost use Rattle.std.specs.Prelude.{◌≡◌, ◌+◌, ◌++◌, [], ◌||◌, map, true, option_map, option_to_list, slice_get, fold, nat_lt, IfOk};
+ghost use Rattle.std.specs.Prelude.{◌≡◌, ◌+◌, ◌++◌, List, [], ◌||◌, map, true, option_map, option_to_list, slice_get, fold, nat_lt, IfOk};
 ghost use Rattle.std.specs.List.{list_any, flat_map};
 ghost use Rattle.plcx_types.specs.Limits.{max_instance_chain};
 ghost use Rattle.plcx_model.specs.Verdict.{first_breaking};
-ghost use Rattle.plcx_profile.specs.Declared.{Declared, in_pou, start_of};
-ghost use Rattle.plcx_profile.specs.Rounds.{flag_or, count_or, first_above};
+ghost use Rattle.plcx_profile.specs.Declarations.{Declared, in_pou, start_of};
+ghost use Rattle.plcx_profile.specs.Rounds.{flag_or, count_or, reached, summed, first_above};
 ghost use Rattle.plcx_profile.specs.Seen.{shown};
 ghost use Rattle.plcx_profile.specs.Sizes.{plus, place_in, block_of, leaves_as, own_leaves, parts_as, with_pins, with_kind, body_parts, with_variable, with_list, content_of, contents, reaches, own, total, breaks_chain, breaks_size};
 
@@ -135,7 +135,7 @@ fn body_parts(elements: &[BodyElement]) -> u64
 }
 
 fn with_place(mut places: Items<usize>, place: Option<usize>) -> Result<Items<usize>, AllocError>
-    ensures { IfOk result (λ all. all ≡ places.entry ++ option_to_list place) }
+    ensures { IfOk result (λ all. all ≡ places ++ option_to_list place) }
 {
     match place {
         None => {}
@@ -174,7 +174,7 @@ fn with_list(
     mut content: Content,
     list: &DraftList,
 ) -> Result<Content, AllocError>
-    ensures { IfOk result (λ after. after ≡ with_list blocks.now content.entry list.now) }
+    ensures { IfOk result (λ after. after ≡ with_list blocks.now content list.now) }
 {
     for variable in list.variables.as_slice() {
         content = with_variable(alloc, blocks, list.class, content, variable)?;
@@ -219,19 +219,26 @@ fn flag_at(flags: &[bool], place: usize) -> bool
     }
 }
 
-fn reaches_one(flags: &[bool], places: &[usize]) -> bool
+fn has_flag(flags: &[bool], places: &[usize]) -> bool
     ensures { result ≡ list_any (λ b. flag_or (slice_get flags.now b)) places.now }
 {
     places.iter().any(|place| flag_at(flags, *place))
 }
 
+#[tactic(auto, unfolding(crate::specs::Rounds::reached))]
+fn reached(flags: &[bool], content: &Content) -> bool
+    ensures { result ≡ reached flags.now content.now }
+{
+    has_flag(flags, content.blocks.as_slice())
+}
+
 /// One instance more below each POU.
 fn deeper(alloc: Global, contents: &[Content], flags: &[bool]) -> Result<Vec<bool>, AllocError>
-    ensures { IfOk result (λ all. all.items ≡ map (λ c. list_any (λ b. flag_or (slice_get flags.now b)) c.blocks) contents.now) }
+    ensures { IfOk result (λ all. all.items ≡ map (reached flags.now) contents.now) }
 {
     let mut all = Vec::new(alloc);
     for content in contents {
-        all.push(reaches_one(flags, content.blocks.as_slice()))?;
+        all.push(reached(flags, content))?;
     }
     Ok(all)
 }
@@ -247,6 +254,7 @@ fn all_true(alloc: Global, contents: &[Content]) -> Result<Vec<bool>, AllocError
 }
 
 /// For each POU, whether as many instances stand in one another below it as may.
+#[tactic(auto, using(crate::proofs::Levels::deeper_from, crate::proofs::Levels::none_deep))]
 fn deep(alloc: Global, contents: &[Content]) -> Result<Vec<bool>, AllocError>
     ensures { IfOk result (λ all. all.items ≡ map (reaches contents.now max_instance_chain) contents.now) }
 {
@@ -285,6 +293,13 @@ fn sum_of(start: u64, counts: &[u64], places: &[usize]) -> u64
     n
 }
 
+#[tactic(auto, unfolding(crate::specs::Rounds::summed))]
+fn summed(size: Size, counts: &[u64], content: &Content) -> u64
+    ensures { result ≡ summed size counts.now content.now }
+{
+    sum_of(own(size, content), counts, content.blocks.as_slice())
+}
+
 /// Each POU with its instances, one level deeper.
 fn larger(
     alloc: Global,
@@ -292,11 +307,11 @@ fn larger(
     contents: &[Content],
     counts: &[u64],
 ) -> Result<Vec<u64>, AllocError>
-    ensures { IfOk result (λ all. all.items ≡ map (λ c. fold (λ m b. plus m (count_or (slice_get counts.now b))) (own size c) c.blocks) contents.now) }
+    ensures { IfOk result (λ all. all.items ≡ map (summed size counts.now) contents.now) }
 {
     let mut all = Vec::new(alloc);
     for content in contents {
-        all.push(sum_of(own(size, content), counts, content.blocks.as_slice()))?;
+        all.push(summed(size, counts, content))?;
     }
     Ok(all)
 }
@@ -312,6 +327,7 @@ fn all_zero(alloc: Global, contents: &[Content]) -> Result<Vec<u64>, AllocError>
 }
 
 /// What each POU has with its instances, from the innermost type outwards.
+#[tactic(auto, using(crate::proofs::Levels::larger_from, crate::proofs::Levels::none_large))]
 fn totals(alloc: Global, size: Size, contents: &[Content]) -> Result<Vec<u64>, AllocError>
     ensures { IfOk result (λ all. all.items ≡ map (total contents.now size (max_instance_chain + 1)) contents.now) }
 {
@@ -329,7 +345,7 @@ fn breaks_chain(
     item: &Declaration,
 ) -> Result<bool, AllocError>
     requires { flags.now ≡ map (reaches (contents blocks.now) max_instance_chain) (contents blocks.now) }
-    ensures { IfOk result (λ broken. (before : List Declared) → broken ≡ breaks_chain blocks.now before (shown item.now)) }
+    ensures { IfOk result (λ broken. broken ≡ breaks_chain blocks.now [] (shown item.now)) }
 {
     match item {
         Declaration::Pou(_) => Ok(false),

@@ -2,7 +2,7 @@
 ghost use Rattle.std.specs.Prelude.{◌≡◌, List, [], map, option_map, IfOk};
 ghost use Rattle.plcx_model.specs.Verdict.{first_breaking};
 ghost use Rattle.plcx_draft.specs.declared.draft.DraftType.TheVariants.{Derived};
-ghost use Rattle.plcx_profile.specs.Declared.{Declared, start_of};
+ghost use Rattle.plcx_profile.specs.Declarations.{Declared, start_of};
 ghost use Rattle.plcx_profile.specs.Seen.{shown};
 ghost use Rattle.plcx_profile.specs.Types.{block_at, standard_or, type_meant, is_plain, is_local, is_in_out, may_hold, breaks_type, is_no_value, is_bad_initial, breaks_in_out, breaks_initial};
 ghost use Rattle.plcx_types.specs.ReadLiteral.{value_of};
@@ -68,7 +68,7 @@ fn may_hold(list: &DraftList, ty: &DraftType) -> bool
 }
 
 fn breaks_type(alloc: Global, blocks: &Blocks, item: &Declaration) -> Result<bool, AllocError>
-    ensures { IfOk result (λ broken. (before : List Declared) → broken ≡ breaks_type blocks.now before (shown item.now)) }
+    ensures { IfOk result (λ broken. broken ≡ breaks_type blocks.now [] (shown item.now)) }
 {
     match item {
         Declaration::Pou(_) => Ok(false),
@@ -127,7 +127,7 @@ fn breaks_in_out(class: ListClass, variable: &DraftVariable) -> bool
 }
 
 fn breaks_initial(item: &Declaration) -> bool
-    ensures { (before : List Declared) → result ≡ breaks_initial before (shown item.now) }
+    ensures { result ≡ breaks_initial [] (shown item.now) }
 {
     match item {
         Declaration::Pou(_) => false,

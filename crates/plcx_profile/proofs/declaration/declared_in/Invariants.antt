@@ -1,6 +1,6 @@
 use Rattle.std.proofs.Common.{◌≡◌, ◌++◌, drop, map}
 use Rattle.std.specs.List.{flat_map}
-use Rattle.plcx_profile.specs.Declared.{in_pou}
+use Rattle.plcx_profile.specs.Declarations.{in_pou}
 use Rattle.plcx_profile.specs.Seen.{shown}
 use Rattle.plcx_profile.proofs.declaration.declared_in.Given as goal
 

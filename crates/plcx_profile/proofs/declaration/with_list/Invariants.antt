@@ -1,6 +1,6 @@
 use Rattle.std.proofs.Common.{◌≡◌, ◌++◌, drop, map}
 use Rattle.plcx_draft.specs.declared.draft.DraftVariable.{DraftVariable}
-use Rattle.plcx_profile.specs.Declared.{OfVariable}
+use Rattle.plcx_profile.specs.Declarations.{OfVariable}
 use Rattle.plcx_profile.specs.Seen.{shown}
 use Rattle.plcx_profile.proofs.declaration.with_list.Given as goal
 

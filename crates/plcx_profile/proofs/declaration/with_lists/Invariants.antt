@@ -1,6 +1,6 @@
 use Rattle.std.proofs.Common.{◌≡◌, ◌++◌, drop, map}
 use Rattle.std.specs.List.{flat_map}
-use Rattle.plcx_profile.specs.Declared.{in_list}
+use Rattle.plcx_profile.specs.Declarations.{in_list}
 use Rattle.plcx_profile.specs.Seen.{shown}
 use Rattle.plcx_profile.proofs.declaration.with_lists.Given as goal
 

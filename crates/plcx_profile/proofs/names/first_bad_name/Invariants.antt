@@ -1,6 +1,6 @@
 use Rattle.std.proofs.Common.{◌≡◌, List, [], drop, map, option_map}
 use Rattle.plcx_model.specs.Verdict.{first_breaking}
-use Rattle.plcx_profile.specs.Declared.{Declared, start_of}
+use Rattle.plcx_profile.specs.Declarations.{Declared, start_of}
 use Rattle.plcx_profile.specs.Names.{breaks_name}
 use Rattle.plcx_profile.specs.Seen.{shown}
 use Rattle.plcx_profile.proofs.names.first_bad_name.Given as goal
