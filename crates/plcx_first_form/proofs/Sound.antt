@@ -17,7 +17,7 @@ use Rattle.plcx_first_model.specs.declared.project.Kind.{Kind}
 use Rattle.plcx_first_model.specs.declared.project.Pou.{Pou}
 use Rattle.plcx_first_model.specs.declared.project.Project.{Project}
 use Rattle.plcx_first_form.specs.Steps.{◌>>=◌, only, each_taken}
-use Rattle.plcx_first_form.specs.Form.{is_good_name, variable_of, variables_of, names_differ, is_unordered, kind_of, element_of, is_within, parts_of, pou_of, first_form_of, is_bool, is_local, is_program}
+use Rattle.plcx_first_form.specs.Form.{is_good_name, variable_of, variables_of, names_differ, is_unordered, kind_of, placed, element_of, is_within, parts_of, pou_of, first_form_of, is_bool, is_local, is_program}
 
 pub both-true : (a b : Bool) → (a && b) ≡ true → (a ≡ true) × (b ≡ true)
 both-true true b h = (refl, h)
@@ -70,7 +70,7 @@ good-variables l vs h =
 small-element : (e : BodyElement) (x : Element) → element_of e ≡ Some x → x.local_id < 2 ^ 64
 unfolding element_of
 small-element e x h =
-    let made : Kind → Element = λ what. record { local_id = e.local_id; x = e.x; y = e.y; kind = what } in
+    let made : Kind → Element = placed e in
     let given = chosen _ (kind_of e.kind >>= λ what. Some (made what)) x h in
     let small = both-true (is_unordered e.order) (nat_lt e.local_id (2 ^ 64)) given.0 in
     let what = bound (kind_of e.kind) (λ what. Some (made what)) x given.1 in

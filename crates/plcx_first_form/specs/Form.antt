@@ -65,10 +65,14 @@ kind_of (kind.Out input text mods) = if is_plain mods then (do
   Some (form.Out text connections)) else None
 kind_of _ = None
 
+-- an element of this kind, in the place of this one
+abbrev pub placed : BodyElement → first'.Kind → element.Element
+placed e what = record { local_id = e.local_id; x = e.x; y = e.y; kind = what }
+
 unfoldable pub element_of : BodyElement → Option element.Element
 element_of e = if is_unordered e.order && nat_lt e.local_id (2 ^ 64) then (do
   what ← kind_of e.kind
-  Some (record { local_id = e.local_id; x = e.x; y = e.y; kind = what })) else None
+  Some (placed e what)) else None
 
 abbrev pub is_bool : VarTy → Bool
 is_bool (var.Plain t) = same_ty t ty.Bool

@@ -1,6 +1,6 @@
 //! The elements of a body.
-ghost use Rattle.std.specs.Prelude.{◌≡◌};
-ghost use Rattle.plcx_first_form.specs.Form.{connection_of, element_of, is_plain, is_unordered, kind_of};
+ghost use Rattle.std.specs.Prelude.{◌≡◌, ◌<◌, ◌^◌};
+ghost use Rattle.plcx_first_form.specs.Form.{connection_of, element_of, is_plain, is_unordered, kind_of, placed};
 ghost use Rattle.plcx_first_form.specs.Gives.{Gives};
 
 use crate::each::{Taken, each};
@@ -73,20 +73,33 @@ fn kind_of(alloc: Global, kind: &plcx_model::Kind) -> Result<Kind, FormError>
     }
 }
 
+fn id_of(item: &BodyElement) -> u64
+    ensures { result ≡ item.now.local_id }
+{
+    item.local_id
+}
+
+fn placed(item: &BodyElement, kind: Kind) -> Element
+    ensures value { result ≡ placed item.now kind }
+    ensures small { result.local_id < 2 ^ 64 }
+{
+    let local_id = id_of(item);
+    Element {
+        local_id,
+        x: item.x,
+        y: item.y,
+        kind,
+    }
+}
+
 impl Taken<BodyElement> for Element {
     ghost form = { element_of };
 
-    #[tactic(auto, unfolding(crate::specs::Form::element_of))]
     fn take(alloc: Global, item: &BodyElement) -> Result<Element, FormError> {
         if !is_unordered(item.order) {
             return Err(FormError::NotBuilt);
         }
         let kind = kind_of(alloc, &item.kind)?;
-        Ok(Element {
-            local_id: item.local_id,
-            x: item.x,
-            y: item.y,
-            kind,
-        })
+        Ok(placed(item, kind))
     }
 }
