@@ -1,10 +1,10 @@
 -- A function is found by its name, and by no other.
-use Rattle.std.proofs.Common.{◌≡◌, ℕ, List, [], ◌∷◌, Bool, true, false, inl, inr, Option, Some, None, refl, ap, sym, ◌∙◌, subst}
-use Rattle.std.specs.Prelude.{not, IfNone, IfSome, if◌then◌else◌}
+use Rattle.std.proofs.Common.{◌≡◌, ℕ, List, [], ◌∷◌, Bool, true, false, Option, Some, None, refl, ap, ◌∙◌, subst}
+use Rattle.std.specs.Prelude.{not, IfNone, if◌then◌else◌}
 use Rattle.std.specs.List.{find, list_all}
 use Rattle.std.specs.Option.{option_map}
 use Rattle.std.specs.Str.{bytes_eq, str_eq_ignore_ascii_case}
-use Rattle.std.proofs.lemmas.Bool.{cases_Bool, and_parts}
+use Rattle.std.proofs.lemmas.Bool.{and_parts}
 use Rattle.std.proofs.lemmas.Slice.Eq.{bytes_eq-Decides}
 use Rattle.plcx_types.specs.declared.ty.Ty.{Ty}
 use Rattle.plcx_types.specs.declared.ty.Ty.TheVariants as ty
@@ -122,11 +122,18 @@ plain_names word g h =
     let own = plain_own g found.1 in
     record { real = own.0; spelled = (bytes_eq-Decides _ _).0 found.0 ∙ ap in_lower_case own.1 }
 
+-- a conversion's name, said of its types and of the function
+pub of_conversion : (word : List ℕ) (from to : Ty) → NamesConversion word from to → NamesFunction word (f.Conv from to)
+of_conversion word from to names = record { real = ap not names.apart; spelled = names.spelled }
+
+pub to_conversion : (word : List ℕ) (from to : Ty) → NamesFunction word (f.Conv from to) → NamesConversion word from to
+to_conversion word from to names = record { apart = differs (same_ty from to) names.real; spelled = names.spelled }
+
 conversion_names : (word : List ℕ) (g : Func) → conversion_named word ≡ Some g → NamesFunction word g
 conversion_names word g h =
     let one = mapped (λ (types : Ty × Ty). f.Conv types.0 types.1) (conversion_of (in_lower_case word)) g h in
     let names = conversion_is word one.0 one.1 in
-    subst (NamesFunction word) one.2 (record { real = ap not names.apart; spelled = names.spelled })
+    subst (NamesFunction word) one.2 (of_conversion word one.0.0 one.0.1 names)
 
 pub function_is : (word : List ℕ) (g : Func) → function_named word ≡ Some g → NamesFunction word g
 function_is word g h = by (plain_among plain_functions word) refl h

@@ -1,5 +1,5 @@
 -- Arguments whose type is known, and numbers that stay in their type.
-use Rattle.std.proofs.Common.{◌≡◌, ℕ, ◌≤◌, ◌<◌, ◌^◌, ◌-◌, Bool, true, false, ℤ, pos, negsuc, refl, sym, ap, subst, ◌∙◌, length, List, [], ◌∷◌, take, drop, get_or, slice_index_or, suc, ◌+◌, Ok, arith}
+use Rattle.std.proofs.Common.{◌≡◌, ℕ, ◌≤◌, ◌<◌, ◌^◌, ◌-◌, Bool, true, false, ℤ, pos, negsuc, refl, sym, ap, subst, ◌∙◌, length, List, [], ◌∷◌, take, drop, get_or, suc, ◌+◌, Ok, arith}
 use Rattle.std.proofs.Math.Nat.{mod-le}
 use Rattle.std.proofs.lemmas.Int.{ints}
 use Rattle.std.proofs.lemmas.List.{take_all, length-drop}

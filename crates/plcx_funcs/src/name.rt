@@ -109,29 +109,3 @@ impl Func {
         }
     }
 }
-
-#[cfg(test)]
-mod tests {
-    use super::*;
-    use plcx_types::Ty;
-
-    #[test]
-    fn finds_functions(rt: HostRuntime) {
-        assert_eq!(rt; lookup(b"Limit"), Some(Func::Limit));
-        let to = Ty::Ulint;
-        assert_eq!(rt;
-            lookup(b"time_TO_ulint"),
-            Some(Func::Conv { from: Ty::Time, to })
-        );
-        for word in [
-            "",
-            "INT_TO_INT",
-            "INT_TO_",
-            "ADDS",
-            "INT_AS_DINT",
-            "_TO_INT",
-        ] {
-            assert_eq!(rt; lookup(word.as_bytes()), None);
-        }
-    }
-}

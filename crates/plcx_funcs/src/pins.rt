@@ -144,7 +144,11 @@ impl FuncPins {
         ensures number { result.name.number ≡ input_number self.now.func i }
         ensures class { result.class ≡ input_class self.now.func i }
     {
-        let FuncPins { func, inputs: count, .. } = *self;
+        let FuncPins {
+            func,
+            inputs: count,
+            ..
+        } = *self;
         prove!(i < count);
         let inputs = row(func).inputs;
         Pin0 {
@@ -161,26 +165,5 @@ impl FuncPins {
         ensures { result ≡ output_class self.now.func }
     {
         row(self.func).out
-    }
-}
-
-#[cfg(test)]
-mod tests {
-    use super::*;
-
-    #[test]
-    fn has_the_pins_of_a_choice(rt: HostRuntime) {
-        assert_eq!(rt; signature(Func::Mux, 2), None);
-        assert_eq!(rt; signature(Func::Mux, 64), None);
-        if let Some(pins) = signature(Func::Mux, 3) {
-            let second = pins.input(1);
-            assert_eq!(rt; second.name.letters, "IN");
-            assert_eq!(rt; second.name.number, Some(0));
-            assert_eq!(rt; pins.input(0).class, Class::Lone);
-            assert_eq!(rt; pins.out(), Class::Group);
-            assert!(rt; pins.allowed.has(Ty::Time));
-        } else {
-            assert!(rt; false);
-        }
     }
 }

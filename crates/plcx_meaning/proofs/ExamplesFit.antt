@@ -4,6 +4,7 @@ use Rattle.std.specs.Prelude.{pos, nat_le, if◌then◌else◌}
 use Rattle.std.specs.List.{list_all}
 use Rattle.std.specs.Str.{bytes_eq}
 use Rattle.std.proofs.lemmas.Bool.{and_parts}
+use Rattle.plcx_types.specs.Reserved.{is_conversion}
 use Rattle.plcx_types.specs.declared.ty.Ty.{Ty}
 use Rattle.plcx_types.specs.declared.ty.Ty.TheVariants as ty
 use Rattle.plcx_types.specs.Name.{in_lower_case, is_next_byte}
@@ -71,6 +72,7 @@ no_enable : (at : Standing) → EnableFits at always
 no_enable at l e = absurd (let h : None ≡ Some l = e in cc)
 
 motor_fits : PouFits (motor ∷ []) motor
+unfolding is_conversion
 motor_fits = record {
   name = (refl, omega arith, refl);
   variables = (
@@ -137,6 +139,7 @@ abbrev both : Project
 both = nested_loop ∷ loop_block ∷ []
 
 loop_fits : PouFits both loop_block
+unfolding is_conversion
 loop_fits = record {
   name = (refl, omega arith, refl);
   variables = (plain _ _ (refl, omega arith, refl) (λ e. cc) refl refl refl (λ e. (refl, (λ h. cc))), tt);
@@ -229,6 +232,7 @@ loop_fits = record {
 }
 
 nested_fits : PouFits both nested_loop
+unfolding is_conversion
 nested_fits = record {
   name = (refl, omega arith, refl);
   variables = (plain _ _ (refl, omega arith, refl) (λ e. cc) refl refl refl (λ e. (refl, (λ h. cc))), (plain _ _ (refl, omega arith, refl) (λ e. cc) refl refl refl (λ e. (refl, (λ h. cc))), tt));
@@ -289,6 +293,7 @@ nested_project_fits = record {
 
 -- a program whose sum feeds back
 counting_fits : PouFits (counting ∷ []) counting
+unfolding is_conversion
 counting_fits = record {
   name = (refl, omega arith, refl);
   variables = (plain _ _ (refl, omega arith, refl) (λ e. cc) refl refl refl (λ e. (refl, (λ h. cc))), tt);

@@ -45,3 +45,4 @@ pub mod ReadySizes
 pub mod ReadyUnits
 pub mod LeafPaths
 pub mod LeafScopes
+pub mod ListedWords

@@ -7,7 +7,7 @@ use Rattle.std.specs.Prelude.{pos, codes}
 use Rattle.plcx_types.specs.declared.ty.Ty.{Ty}
 use Rattle.plcx_types.specs.declared.ty.Ty.TheVariants as ty
 use Rattle.plcx_types.proofs.TypeTable.{within_range}
-use Rattle.plcx_types.specs.Reserved.{is_listed}
+use Rattle.plcx_types.specs.Reserved.{is_conversion, is_listed}
 use Rattle.plcx_types.specs.TypeName.{type_named}
 use Rattle.plcx_meaning.specs.Layout.{Variable, variables_of}
 use Rattle.plcx_meaning.specs.Typed.{variable_in}
@@ -109,6 +109,7 @@ main = with_body
     ∷ [])
 
 counting_ready : PouIsReady ready_unit counting
+unfolding is_conversion
 counting_ready = record {
   free = refl;
   distinct = refl;
@@ -119,6 +120,7 @@ counting_ready = record {
 }
 
 main_variables : Each (VariableIsReady ready_unit Program) (variables_of main.blocks)
+unfolding is_conversion
 main_variables = (
   plain_variable ready_unit Program _ refl refl refl (λ e. absurd (cc)) (λ e k. cc),
   (
@@ -173,6 +175,7 @@ main_body = (
 )
 
 main_ready : PouIsReady ready_unit main
+unfolding is_conversion
 main_ready = record { free = refl; distinct = refl; variables = main_variables; body = main_body; nests = main_nests; small = omega arith }
 
 pub is_ready : IsReady ready_unit

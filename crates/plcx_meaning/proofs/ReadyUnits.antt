@@ -8,7 +8,7 @@ use Rattle.std.proofs.lemmas.Bool.{or_parts}
 use Rattle.plcx_types.specs.declared.ty.Ty.{Ty}
 use Rattle.plcx_types.specs.declared.ty.Ty.TheVariants as ty
 use Rattle.plcx_types.specs.Name.{in_lower_case}
-use Rattle.plcx_types.specs.Reserved.{is_listed, is_own, is_reserved}
+use Rattle.plcx_types.specs.Reserved.{is_conversion, is_listed, is_own, is_reserved}
 use Rattle.plcx_types.specs.TypeName.{type_name, type_named}
 use Rattle.plcx_std.specs.declared.kind.StdKind.{StdKind}
 use Rattle.plcx_std.specs.Kind.{kind_named}
@@ -40,10 +40,12 @@ not_listed : (x : List ℕ) → is_reserved x ≡ false → is_listed x ≡ fals
 not_listed x h = (or_parts (is_listed x) (is_own x) h).0
 
 memory_free : (k : Memory) → is_listed (memory_name k) ≡ false
+unfolding is_conversion
 memory_free (AtEdge id) = refl
 memory_free (AtOutput id pin) = refl
 
 wire_free : (id : ℕ) (pin : List ℕ) → is_listed (wire_name id pin) ≡ false
+unfolding is_conversion
 wire_free id pin = refl
 
 -- each variable is found under its own name
@@ -85,6 +87,7 @@ module _ (project : Project) where
   in_outs_stand p h = each_flat_map _ block_variables p.lists (each_weaker (InOutsFit p.kind) _ p.lists (λ b fit. each_map _ (variable b.class b.mark) b.declarations (each_from _ b.declarations (λ d there is. (each_at _ b.declarations d (fit is).1 there).0))) h)
 
   variables_ready : (p : Pou) → PouFits project p → Each (VariableIsReady unit p.kind) (variables_of (pou_text p).blocks)
+  unfolding is_conversion
   variables_ready p fits =
       subst (Each (VariableIsReady unit p.kind)) (sym (text_variables p))
       (each_append _ (variables_of p.lists) (own_variables p)

@@ -21,6 +21,7 @@ pub mod Ready
 -- What is said of the definitions alone.
 pub mod Turns
 pub mod Laws
+pub mod Taken
 -- Worked examples.
 pub mod Pieces
 pub mod ExampleRungs

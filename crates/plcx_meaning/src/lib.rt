@@ -4,6 +4,7 @@
 mod examples;
 mod law;
 mod ready;
+mod words;
 
 pub use examples::{
     examples_of_blocks, examples_of_feedback, examples_of_in_outs, examples_of_loops,
@@ -15,3 +16,4 @@ pub use law::{
     times_of_scans, turns_never_grow,
 };
 pub use ready::{never_stuck, readiness_of_texts, texts_are_ready};
+pub use words::listed_words;

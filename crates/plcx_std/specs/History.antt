@@ -155,8 +155,8 @@ open_pulse following (c ∷ earlier) =
     let open_before = open_pulse (c ∷ []) earlier in
     let rises = rose (λ d. d.input) (c ∷ earlier) in
     if starts c rises open_before && all_within c.time following
-        then Some c.time
-        else open_pulse (following ++ (c ∷ [])) earlier
+    then Some c.time
+    else open_pulse (following ++ (c ∷ [])) earlier
 
 -- IN is TRUE at a call, at all that follow it, and at the call before it
 abbrev pub stays_on : List TimerCall → TimerCall → List TimerCall → Bool

@@ -236,7 +236,7 @@ places_are (suc most) text h =
     let p = and_parts (are_few (digits_of text)) (ends_or (are_places most) (rest_of text)) h in
     rest_goes most text (places_are most) (few_is (digits_of text) (front_passes (is_digit 10) text) p.0) (rest_of text) refl p.1
 
-form_reads : (text : List ℕ) → IsAddressForm text → is_address_form text ≡ true
+pub form_reads : (text : List ℕ) → IsAddressForm text → is_address_form text ≡ true
 unfolding is_address_form
 form_reads text is =
     let h = headed is in
@@ -245,7 +245,7 @@ form_reads text is =
       | inr other ↦ rw other (places_read 8 (h.next ∷ h.rest) (without_size h.area h.next h.rest other (subst IsAddressForm h.is is)))
     ]))
 
-form_is : (text : List ℕ) → is_address_form text ≡ true → IsAddressForm text
+pub form_is : (text : List ℕ) → is_address_form text ≡ true → IsAddressForm text
 unfolding is_address_form
 form_is [] h = absurd (cc)
 form_is (mark ∷ []) h = absurd (cc)

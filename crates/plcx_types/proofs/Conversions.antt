@@ -91,7 +91,7 @@ conversion_is word p found =
 abbrev between : List ℕ → Ty → Ty → Bool
 between word from to = not (same_ty from to) && str_eq_ignore_ascii_case word (conversion_name from to)
 
-listed_by : (word : List ℕ) (from to : Ty) → NamesConversion word from to → is_conversion word ≡ true
+pub listed_by : (word : List ℕ) (from to : Ty) → NamesConversion word from to → is_conversion word ≡ true
 unfolding is_conversion
 listed_by word from to names =
     let here : between word from to ≡ true = and_from (not (same_ty from to)) _ (ap not names.apart) ((bytes_eq-Decides _ _).1 names.spelled) in

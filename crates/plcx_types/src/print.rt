@@ -52,23 +52,3 @@ pub fn print_literal(alloc: Global, v: Val) -> Result<Vec<u8>, NoMemory>
     let bytes = bytes_of(alloc, v)?;
     Ok(bytes)
 }
-
-#[cfg(test)]
-mod tests {
-    use super::*;
-    use std::test::Fail;
-
-    #[test]
-    fn prints_values(rt: HostRuntime) -> Result<(), Fail> {
-        for (ty, n, text) in [
-            (Ty::Bool, 1, "TRUE"),
-            (Ty::Time, -5, "T#-5ms"),
-            (Ty::Int, -32768, "INT#-32768"),
-        ] {
-            let value = Val::new(ty, n).expect(&rt, "a value");
-            let bytes = print_literal(rt.alloc(), value)?;
-            assert_eq!(rt; bytes.as_slice(), text.as_bytes());
-        }
-        Ok(())
-    }
-}
