@@ -3,7 +3,6 @@
 
 mod declaration;
 mod expression;
-mod fault;
 mod lexeme;
 mod place;
 mod printed;

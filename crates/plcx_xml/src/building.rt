@@ -13,7 +13,7 @@ use crate::lexing::is_blank;
 use crate::token::{Kind, Token};
 use crate::tree::{Attribute, Element, Node, Text};
 use plcx_types::Span;
-use sqlite_items::{Boxed, Items};
+use sqlite_items::Items;
 use std::alloc::{AllocError, AllocFailed, Global};
 
 /// How many elements may lie in one another.
@@ -66,7 +66,7 @@ fn put_element(alloc: Global, mut frames: Vec<Frame>, element: Element) -> Resul
     match frames.pop() {
         None => Ok(Build::Closed(element)),
         Some(mut frame) => {
-            let node = Node::Element(Boxed::new(alloc, element)?);
+            let node = Node::Element(element);
             frame.children.push(node)?;
             frames.push(frame)?;
             Ok(Build::Open(frames))

@@ -1,7 +1,8 @@
+//! The tree of an exchange file. All of its bytes are UTF-8, and all spans count bytes from the file's start.
 use plcx_types::Span;
-use sqlite_items::{Boxed, Items};
+use sqlite_items::Items;
 
-/// An attribute as it stands in a tag. Its span begins at its name and ends behind its closing quote.
+/// An attribute. Its span begins at its name and ends behind its closing quote.
 #[derive(Debug, Drop)]
 pub struct Attribute {
     pub name: Items<u8>,
@@ -9,7 +10,7 @@ pub struct Attribute {
     pub span: Span,
 }
 
-/// What stands between two tags.
+/// What stands between two tags. Its span begins with its first token and ends with its last.
 #[derive(Debug, Drop)]
 pub struct Text {
     pub value: Items<u8>,
@@ -20,7 +21,7 @@ pub struct Text {
 #[cycle(tree)]
 #[derive(Drop)]
 pub enum Node {
-    Element(Boxed<Element>),
+    Element(Element),
     Text(Text),
 }
 
