@@ -17,5 +17,4 @@ pub mod Deep
 pub mod FunctionWords
 pub mod RangeBodies
 pub mod DeepBodies
-pub mod Addresses
 pub mod RangeUnits

@@ -30,13 +30,12 @@ use Rattle.plcx_meaning.proofs.Lists.{each_at, each_append, each_map, each_flat_
 use Rattle.plcx_meaning.proofs.Enabling.{each_split}
 use Rattle.plcx_meaning.proofs.StaticsWorlds.{block_text, block_fits}
 use Rattle.plcx_meaning.proofs.ReadyUnits.{each_both, unit_ready}
-use Rattle.plcx_st.specs.InRange.{IsWord, DeclarationInRange, IsBare, FitsClass, BlockInRange, StatementsInRange, PouInRange, UnitInRange}
+use Rattle.plcx_st.specs.InRange.{IsWord, DeclarationInRange, IsBare, FitsClass, BlockInRange, StatementsInRange, PouInRange, UnitInRange, AddressInRange}
 use Rattle.plcx_st.specs.Fitting.{InitialNumberFits, DeclarationFits, BlockFits, StatementsFit, UnitFits}
 use Rattle.plcx_st.specs.Fitting as fitting
 use Rattle.plcx_st.specs.Depth.{pou_depth, printed_depth}
 use Rattle.plcx_st.proofs.Words.{word_same, good_word, type_word, elementary_word, standard_word, wire_word, edge_word, output_word, counter_word}
 use Rattle.plcx_st.proofs.FunctionWords.{is_word, word_is}
-use Rattle.plcx_st.proofs.Addresses.{address_range}
 use Rattle.plcx_st.proofs.Deep.{max_low}
 use Rattle.plcx_st.proofs.DeepBodies.{body_low}
 use Rattle.plcx_st.proofs.RangeBodies.{HasWord, body_range}
@@ -61,6 +60,11 @@ named_block type (p ∷ ps) q h = by (not (is_program p.kind) && bytes_eq (in_lo
         let same : p ≡ q = cc in
         subst (λ (r : Pou). in_lower_case type ≡ in_lower_case r.name) same (sym (bytes_same (in_lower_case p.name) (in_lower_case type) (and_parts (not (is_program p.kind)) (bytes_eq (in_lower_case p.name) (in_lower_case type)) e).1))
     by false e later k = later k
+
+-- an address of the form is one token, in upper case
+address_range : (address : Option (List ℕ)) → AddressFits address → AddressInRange address
+address_range None h = tt
+address_range (Some text) h = h
 
 known_word : (project : Project) → Each (PouFits project) project → (type : List ℕ) → project_knows project type ≡ true → IsWord type
 known_word project all type known = by (type_named type) refl (kind_named type) refl (block_named type project) refl known
