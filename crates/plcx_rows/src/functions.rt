@@ -58,12 +58,7 @@ fn given(
     Ok(apply(func, ty, &values).map(|value| (value.ty(), value.n())))
 }
 
-fn alike(
-    func: Func,
-    ty: Ty,
-    numbers: &[i128],
-    alloc: Global,
-) -> Result<Result<i128, Fault>, Fail> {
+fn alike(func: Func, ty: Ty, numbers: &[i128], alloc: Global) -> Result<Result<i128, Fault>, Fail> {
     let mut args = Vec::new(alloc);
     for n in numbers {
         args.push((ty, *n))?;

@@ -1,6 +1,6 @@
 //! Units that texts are.
-use plcx_read::read;
 use plcx_lex::{TextError, tokens};
+use plcx_read::read;
 use plcx_st::{Expr, Mark, Op, Stmt, TextBlock, TextClass, TextKind, Word};
 use plcx_types::Ty;
 use std::test::Fail;
