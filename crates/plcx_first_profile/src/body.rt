@@ -263,7 +263,10 @@ impl Form for plcx_first_model::Element {
 }
 
 #[tactic(auto, unfolding(crate::specs::Body::elements_of))]
-fn elements(alloc: Global, diagram: &Element) -> Result<Items<plcx_first_model::Element>, ProfileError>
+fn elements(
+    alloc: Global,
+    diagram: &Element,
+) -> Result<Items<plcx_first_model::Element>, ProfileError>
     ensures { Gives result (elements_of diagram.now) }
 {
     if !is_plain(diagram, &["inVariable", "outVariable"]) {
@@ -274,7 +277,10 @@ fn elements(alloc: Global, diagram: &Element) -> Result<Items<plcx_first_model::
 
 /// The elements of a body.
 #[tactic(auto, unfolding(crate::specs::Body::body_of))]
-pub fn body(alloc: Global, element: &Element) -> Result<Items<plcx_first_model::Element>, ProfileError>
+pub fn body(
+    alloc: Global,
+    element: &Element,
+) -> Result<Items<plcx_first_model::Element>, ProfileError>
     ensures { Gives result (body_of element.now) }
 {
     match only_child(element, "FBD") {

@@ -141,7 +141,10 @@ fn child_interface(alloc: Global, pou: &Element) -> Result<Items<Variable>, Prof
 }
 
 #[tactic(auto, unfolding(crate::specs::PouAt::child_body))]
-fn child_body(alloc: Global, pou: &Element) -> Result<Items<plcx_first_model::Element>, ProfileError>
+fn child_body(
+    alloc: Global,
+    pou: &Element,
+) -> Result<Items<plcx_first_model::Element>, ProfileError>
     ensures { Gives result (child_body pou.now) }
 {
     match needed_child(pou, "body") {

@@ -5,3 +5,5 @@
 mod files;
 #[cfg(test)]
 mod tests;
+#[cfg(test)]
+mod xml;
