@@ -2,12 +2,12 @@
 use Rattle.std.proofs.Common.{◌≡◌, ◌≢◌, ℕ, suc, ◌+◌, ◌≤◌, ◌<◌, ◌^◌, inl, inr, Bool, true, false, ◌||◌, ◌&&◌, List, [], ◌∷◌, ◌++◌, Some, None, map, length, nat_eq, refl, sym, ap, ◌∙◌, subst, append-nil, arith}
 use Rattle.std.specs.List.{Contains, flat_map, sum_by, list_any}
 use Rattle.std.specs.Str.{bytes_eq}
-use Rattle.std.proofs.lemmas.Bool.{or_cases, or_left, or_right, cond-true, cond-false, cases_Bool, and_parts, eqb-true, both_ways}
+use Rattle.std.proofs.lemmas.Bool.{or_cases, or_left, or_right, or_from, cond-true, cond-false, cases_Bool, and_parts, eqb-true, both_ways}
 use Rattle.std.proofs.lemmas.Int.{ints}
 use Rattle.std.proofs.lemmas.Slice.Eq.{bytes_eq-Decides}
 use Rattle.std.proofs.lemmas.List.{length-map}
 use Rattle.std.proofs.lemmas.List.Sums.{sum_by-cons}
-use Rattle.plcx_types.specs.Name.{folded}
+use Rattle.plcx_types.specs.Name.{in_lower_case}
 use Rattle.plcx_types.specs.TypeName.{type_named}
 use Rattle.plcx_types.specs.declared.ty.Ty.TheVariants as ty
 use Rattle.plcx_meaning.specs.Base.{Path, Each, all_differ, are_distinct}
@@ -15,10 +15,10 @@ use Rattle.plcx_meaning.specs.Tree.{Local, Input, Plain, Constant, Declaration}
 use Rattle.plcx_meaning.specs.Layout as layout
 use Rattle.plcx_meaning.specs.Layout.{variable, variables_of, variable_named, Scope, Leaf, variable_leaves, leaves, layout}
 use Rattle.plcx_meaning.specs.Diagram as diagram
-use Rattle.plcx_meaning.specs.Diagram.{Port, port}
+use Rattle.plcx_meaning.specs.Diagram.{Port, port, links_of, link_reads_back}
 use Rattle.plcx_meaning.specs.Evaluate.{scope_of}
 use Rattle.plcx_meaning.specs.Address.{AddressFits}
-use Rattle.plcx_meaning.specs.Fits.{IsGoodName, IsVariable, CanBeWritten, variable_parts, parts, Standing, LinkFits, KindFits, fixed_by, is_fresh, ElementsFit, PortsFit, VariableFits, PouFits, Nests, ProjectFits}
+use Rattle.plcx_meaning.specs.Fits.{IsGoodName, IsVariable, CanBeWritten, variable_parts, parts, Standing, LinkFits, KindFits, fixed_by, is_fresh, ElementsFit, PortsFit, VariableFits, PouFits, PouNests, ProjectFits}
 use Rattle.plcx_first_model.specs.declared.project.Kind.{Kind}
 use Rattle.plcx_first_model.specs.declared.project.Kind.TheVariants as kind
 use Rattle.plcx_first_model.specs.declared.project.Connection.{Connection}
@@ -49,24 +49,24 @@ named_later : (x y : Bool) → (x || y) ≡ true → x ≡ false → y ≡ true
 named_later x y one other = elim (or_cases x y one) [ inl named ↦ absurd (both_ways x other named) | inr later ↦ later ]
 
 abbrev Lists : List Variable → List ℕ → Type 0
-Lists vs x = list_any (λ (v : Variable). bytes_eq (folded v.name) (folded x)) vs ≡ true
+Lists vs x = list_any (λ (v : Variable). bytes_eq (in_lower_case v.name) (in_lower_case x)) vs ≡ true
 
 -- a text that names a variable gives the name of one
 declared_is_listed : (vs : List Variable) (text : List ℕ) → names_one vs text ≡ true → Lists vs (declared_name vs text)
 declared_is_listed [] text one = absurd (cc)
 declared_is_listed (v ∷ vs) text one = elim (cases_Bool (is_named text v)) [
-  | inl named ↦ subst (λ x. Lists (v ∷ vs) x) (sym (cond-true (is_named text v) v.name (declared_name vs text) named)) (or_left _ _ ((bytes_eq-Decides (folded v.name) (folded v.name)).1 refl))
+  | inl named ↦ subst (λ x. Lists (v ∷ vs) x) (sym (cond-true (is_named text v) v.name (declared_name vs text) named)) (or_left _ _ ((bytes_eq-Decides (in_lower_case v.name) (in_lower_case v.name)).1 refl))
   | inr other ↦ subst (λ x. Lists (v ∷ vs) x) (sym (cond-false (is_named text v) v.name (declared_name vs text) other)) (or_right _ _ (declared_is_listed vs text (named_later _ _ one other)))
 ]
 
 -- and what is found under it is of type BOOL
 listed_is_variable : (vs : List Variable) (x : List ℕ) → Lists vs x → IsVariable (map variable_of vs) x ty.Bool
 listed_is_variable [] x listed = absurd (cc)
-listed_is_variable (v ∷ vs) x listed = elim (cases_Bool (bytes_eq (folded v.name) (folded x))) [
-  | inl same ↦ record { variable = variable_of v; found = cond-true _ (Some (variable_of v)) (variable_named (folded x) (map variable_of vs)) same; typed = refl; class = λ e. cc }
+listed_is_variable (v ∷ vs) x listed = elim (cases_Bool (bytes_eq (in_lower_case v.name) (in_lower_case x))) [
+  | inl same ↦ record { variable = variable_of v; found = cond-true _ (Some (variable_of v)) (variable_named (in_lower_case x) (map variable_of vs)) same; typed = refl; class = λ e. cc }
   | inr other ↦
       let rest = listed_is_variable vs x (named_later _ _ listed other) in
-      record { variable = rest.variable; found = cond-false _ (Some (variable_of v)) (variable_named (folded x) (map variable_of vs)) other ∙ rest.found; typed = rest.typed; class = rest.class }
+      record { variable = rest.variable; found = cond-false _ (Some (variable_of v)) (variable_named (in_lower_case x) (map variable_of vs)) other ∙ rest.found; typed = rest.typed; class = rest.class }
 ]
 
 declared_is_variable : (vs : List Variable) (text : List ℕ) → names_one vs text ≡ true → IsVariable (variables_of (list_of vs ∷ [])) (declared_name vs text) ty.Bool
@@ -75,7 +75,7 @@ declared_is_variable vs text one = subst (λ ws. IsVariable ws (declared_name vs
 -- what is found is one of the variables
 found_is_one : (vs : List Variable) (x : List ℕ) (v : layout.Variable) → variable_named x (map variable_of vs) ≡ Some v → (w : Variable) × (variable_of w ≡ v)
 found_is_one [] x v found = absurd (cc)
-found_is_one (w ∷ vs) x v found = elim (cases_Bool (bytes_eq (folded w.name) x)) [
+found_is_one (w ∷ vs) x v found = elim (cases_Bool (bytes_eq (in_lower_case w.name) x)) [
   | inl same ↦ (w, let e = rw same at found in cc)
   | inr other ↦ found_is_one vs x v (rw other at found)
 ]
@@ -85,7 +85,7 @@ declared_is_one vs x v found = found_is_one vs x v (sym (ap (variable_named x) (
 
 can_be_written : (vs : List Variable) (x : List ℕ) → CanBeWritten (variables_of (list_of vs ∷ [])) x
 can_be_written vs x v found =
-    let one = declared_is_one vs (folded x) v found in
+    let one = declared_is_one vs (in_lower_case x) v found in
     subst (λ (u : layout.Variable). (u.class ≢ Input) × (u.mark ≢ Constant)) one.1 ((λ e. cc), (λ e. cc))
 
 -- what an element that is done has fixed
@@ -170,9 +170,19 @@ elements_fit p ns (e ∷ es) done wired body own order carried apart =
           (carried_on p e e.kind done wired (is_input_there p e body there) carried) (apart_on p e e.kind es wired once apart),
     )
 
-ports_fit : (p : Pou) (id : ℕ) (k : Kind) → id < 2 ^ 64 → PortsFit (record { id = id; kind = kind_of p k; fed = [] })
-ports_fit p id (kind.In text) small = record { small = small; pins = refl; fed = tt; distinct = refl; names = ((refl, omega arith), tt) }
-ports_fit p id (kind.Out text input) small = record { small = small; pins = refl; fed = tt; distinct = refl; names = tt }
+-- nothing feeds back
+reads_nothing : (p : Pou) (id : ℕ) (pin : List ℕ) (k : Kind) → list_any (link_reads_back id pin) (links_of (kind_of p k)) ≡ false
+reads_nothing p id pin (kind.In text) = refl
+reads_nothing p id pin (kind.Out text input) = refl
+
+nothing_fed : (p : Pou) (id : ℕ) (pin : List ℕ) (es : List Element) → list_any (λ (e : diagram.DiagramElement). list_any (link_reads_back id pin) (links_of e.kind)) (map (element_of p) es) ≡ false
+nothing_fed p id pin [] = refl
+nothing_fed p id pin (e ∷ es) = or_from _ _ (reads_nothing p id pin e.kind) (nothing_fed p id pin es)
+
+ports_fit : (p : Pou) (ns : List (List Element)) (id : ℕ) (k : Kind) → id < 2 ^ 64 → PortsFit (diagram_of p ns) (record { id = id; kind = kind_of p k; fed = [] })
+ports_fit p ns id (kind.In text) small =
+    record { small = small; pins = refl; fed = sym (cond-false _ (port [] ty.Bool ∷ []) [] (nothing_fed p id [] p.elements)); names = ((refl, omega arith), tt) }
+ports_fit p ns id (kind.Out text input) small = record { small = small; pins = refl; fed = refl; names = tt }
 
 variable_fits : (project : diagram.Project) (v : Variable) → IsGoodName v.name → VariableFits project (variable_of v)
 variable_fits project v good = record { name = good; class = λ e. cc; known = refl; spelled = refl; initial = λ value e. absurd (cc); instance = λ e. absurd (cc) }
@@ -186,11 +196,11 @@ no_parts : (inner : diagram.Pou → ℕ) (project : diagram.Project) (vs : List 
 no_parts inner project [] = refl
 no_parts inner project (v ∷ vs) = sum_by-cons (variable_parts inner project) (variable_of v) (map variable_of vs) ∙ ap (λ n. 0 + n) (no_parts inner project vs)
 
-one_each : (p : Pou) (es : List Element) → sum_by (λ (e : diagram.Element). suc (length e.fed)) (map (element_of p) es) ≡ length es
+one_each : (p : Pou) (es : List Element) → sum_by (λ (e : diagram.DiagramElement). suc (length e.fed)) (map (element_of p) es) ≡ length es
 one_each p [] = refl
 one_each p (e ∷ es) =
-    let step : sum_by (λ (f : diagram.Element). suc (length f.fed)) (map (element_of p) (e ∷ es)) ≡ 1 + sum_by (λ (f : diagram.Element). suc (length f.fed)) (map (element_of p) es) =
-    sum_by-cons (λ (f : diagram.Element). suc (length f.fed)) (element_of p e) (map (element_of p) es) in
+    let step : sum_by (λ (f : diagram.DiagramElement). suc (length f.fed)) (map (element_of p) (e ∷ es)) ≡ 1 + sum_by (λ (f : diagram.DiagramElement). suc (length f.fed)) (map (element_of p) es) =
+    sum_by-cons (λ (f : diagram.DiagramElement). suc (length f.fed)) (element_of p e) (map (element_of p) es) in
     omega (arith, one_each p es, step)
 
 few_leaves : (p : Pou) (ns : List (List Element)) → length p.variables ≤ 4096 → length (layout (scope_of (diagram_of p ns ∷ []) (diagram_of p ns))) ≤ 262144
@@ -216,12 +226,12 @@ diagram_fits p ns sound body networks =
       name = sound.name;
       variables = subst (Each (VariableFits project)) (sym (variables_are p.variables))
           (each-map (VariableFits project) variable_of p.variables (each-weaker _ _ p.variables (variable_fits project) sound.variables));
-      distinct = ap (λ (vs : List layout.Variable). are_distinct (map (λ (v : layout.Variable). folded v.name) vs)) (variables_are p.variables)
-          ∙ ap are_distinct (same-map variable_of (λ (v : layout.Variable). folded v.name) p.variables) ∙ sound.distinct;
+      distinct = ap (λ (vs : List layout.Variable). are_distinct (map (λ (v : layout.Variable). in_lower_case v.name) vs)) (variables_are p.variables)
+          ∙ ap are_distinct (same-map variable_of (λ (v : layout.Variable). in_lower_case v.name) p.variables) ∙ sound.distinct;
       few = subst (λ (vs : List layout.Variable). length vs ≤ 4096) (sym (variables_are p.variables)) (subst (λ n. n ≤ 4096) (sym (length-map p.variables variable_of)) sound.few);
       ids = ap all_differ (same-map (element_of p) (λ e. e.id) p.elements) ∙ body.ids;
       elements = subst (λ n. n ≤ 4096) (sym (length-map p.elements (element_of p))) sound.bounded;
-      ports = each-map PortsFit (element_of p) p.elements (each-weaker _ _ p.elements (λ (e : Element). ports_fit p e.local_id e.kind) sound.small);
+      ports = each-map (PortsFit (diagram_of p ns)) (element_of p) p.elements (each-weaker _ _ p.elements (λ (e : Element). ports_fit p ns e.local_id e.kind) sound.small);
       networks = each-map (ElementsFit project (diagram_of p ns) []) (map (element_of p)) ns (each_there (λ n. ElementsFit project (diagram_of p ns) [] (map (element_of p) n)) ns (λ n there.
           elements_fit p ns n [] [] body (λ e within. networks.only e (there-joined ns n e there within)) (each_at (IsOrder []) ns n networks.orders there)
           (λ id none input. absurd (none_there id none)) (λ d none. absurd (none_there d none))));
@@ -232,10 +242,10 @@ diagram_fits p ns sound body networks =
       addresses = (no_addresses p.variables, tt);
     }
 
-diagram_nests : (p : Pou) (ns : List (List Element)) → Nests 16 (diagram_of p ns ∷ []) (diagram_of p ns)
+diagram_nests : (p : Pou) (ns : List (List Element)) → PouNests 16 (diagram_of p ns ∷ []) (diagram_of p ns)
 diagram_nests p ns x v found none standard =
     let one = declared_is_one p.variables x v found in
-    absurd {A = (q : diagram.Pou) × (diagram.block_named v.ty (diagram_of p ns ∷ []) ≡ Some q) × Nests 15 (diagram_of p ns ∷ []) q} (let no : Some ty.Bool ≡ None = ap (λ (u : layout.Variable). type_named u.ty) one.1 ∙ none in cc)
+    absurd {A = (q : diagram.Pou) × (diagram.block_named v.ty (diagram_of p ns ∷ []) ≡ Some q) × PouNests 15 (diagram_of p ns ∷ []) q} (let no : Some ty.Bool ≡ None = ap (λ (u : layout.Variable). type_named u.ty) one.1 ∙ none in cc)
 
 pub project_fits : (p : Pou) (ns : List (List Element)) → IsSound p → BodyIsFirst p → AreNetworks p ns → ProjectFits (diagram_of p ns ∷ [])
 project_fits p ns sound body networks = record { names = refl; pous = (diagram_fits p ns sound body networks, tt); nests = (diagram_nests p ns, tt) }

@@ -21,11 +21,11 @@ first_source (c ∷ cs) = c.element
 abbrev pub link_of : List Connection → Link
 link_of input = record { ty = ty.Bool; negated = false; first = Wire (first_source input) []; others = [] }
 
-abbrev pub kind_of : Pou → Kind → diagram.Kind
+abbrev pub kind_of : Pou → Kind → diagram.ElementKind
 kind_of p (kind.In text) = In ty.Bool false (Own (declared_name p.variables text))
 kind_of p (kind.Out text input) = Out Stored (declared_name p.variables text) (link_of input)
 
-abbrev pub element_of : Pou → Element → diagram.Element
+abbrev pub element_of : Pou → Element → diagram.DiagramElement
 element_of p e = record { id = e.local_id; kind = kind_of p e.kind; fed = [] }
 
 abbrev pub declaration_of : Variable → Declaration

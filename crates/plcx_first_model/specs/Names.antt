@@ -2,7 +2,7 @@
 use Rattle.std.specs.Prelude.{ℕ, ◌||◌, ◌-◌, Bool, List, [], ◌∷◌, nat_eq, take, drop, reverse, length, if◌then◌else◌}
 use Rattle.std.specs.List.{list_any, prefix_len}
 use Rattle.std.specs.Str.{bytes_eq}
-use Rattle.plcx_types.specs.Name.{folded}
+use Rattle.plcx_types.specs.Name.{in_lower_case}
 use Rattle.plcx_first_model.specs.declared.project.Variable.{Variable}
 
 -- space, tab, carriage return or line feed
@@ -20,7 +20,7 @@ abbrev pub trimmed : List ℕ → List ℕ
 trimmed text = before_space (behind_space text)
 
 abbrev pub is_named : List ℕ → Variable → Bool
-is_named text v = bytes_eq (folded v.name) (folded (trimmed text))
+is_named text v = bytes_eq (in_lower_case v.name) (in_lower_case (trimmed text))
 
 -- the text names one of the variables
 abbrev pub names_one : List Variable → List ℕ → Bool

@@ -53,13 +53,13 @@ pub fn trimmed(text: &[u8]) -> &[u8]
 }
 
 fn is_named(name: &[u8], text: &[u8]) -> bool
-    ensures { result ≡ bytes_eq (folded name.now) (folded text.now) }
+    ensures { result ≡ bytes_eq (in_lower_case name.now) (in_lower_case text.now) }
 {
     same_name(name, text)
 }
 
 ghost use Rattle.std.specs.Str.{bytes_eq};
-ghost use Rattle.plcx_types.specs.Name.{folded};
+ghost use Rattle.plcx_types.specs.Name.{in_lower_case};
 
 /// The variable that a text names, with white space around the name or not, and whatever the case of its letters.
 pub fn variable_named<'a>(variables: &'a [Variable], text: &[u8]) -> Option<&'a Variable>

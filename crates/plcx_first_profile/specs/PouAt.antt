@@ -1,6 +1,6 @@
 -- A program: its name, its variables, and the elements of its body.
 use Rattle.std.specs.Prelude.{ℕ, Bool, false, not, ◌&&◌, List, [], ◌∷◌, codes, map, length, nat_le, Option, Some, None, if◌then◌else◌}
-use Rattle.plcx_types.specs.Name.{is_identifier, folded}
+use Rattle.plcx_types.specs.Name.{is_identifier, in_lower_case}
 use Rattle.plcx_types.specs.Reserved.{is_reserved}
 use Rattle.plcx_meaning.specs.Base.{are_distinct}
 use Rattle.plcx_xml.specs.declared.tree.Element.{Element}
@@ -42,7 +42,7 @@ variable_of e = if may_have (codes "address") ([] ∷ []) e && is_bool e then (d
 
 -- no name stands twice, whatever its case
 abbrev pub names_differ : List Variable → Bool
-names_differ vs = are_distinct (map (λ (v : Variable). folded v.name) vs)
+names_differ vs = are_distinct (map (λ (v : Variable). in_lower_case v.name) vs)
 
 -- the variables of a list that is neither constant nor retained, in the order of the file
 unfoldable pub variables_of : Element → Option (List Variable)

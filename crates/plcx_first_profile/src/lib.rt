@@ -13,6 +13,3 @@ mod project;
 
 pub use error::ProfileError;
 pub use project::{project_of, sound_projects};
-
-#[cfg(test)]
-mod tests;

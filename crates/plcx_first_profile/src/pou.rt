@@ -2,7 +2,7 @@
 ghost use Rattle.std.specs.Prelude.{◌≡◌, map, option_copied, IfSome, IsTrue};
 ghost use Rattle.std.specs.List.{list_any};
 ghost use Rattle.std.specs.Str.{bytes_eq};
-ghost use Rattle.plcx_types.specs.Name.{folded, is_identifier};
+ghost use Rattle.plcx_types.specs.Name.{in_lower_case, is_identifier};
 ghost use Rattle.plcx_first_profile.specs.PouAt.{is_good_name, good_name, type_of, is_bool, variable_of, names_differ, variables_of, interface_of, child_interface, child_body, is_within, parts_of, pou_of};
 ghost use Rattle.plcx_first_profile.specs.Gives.{Gives};
 ghost use Rattle.plcx_first_model.specs.declared.project.Variable.{Variable};
@@ -101,13 +101,13 @@ fn interface(alloc: Global, element: &Element) -> Result<Items<Variable>, Profil
 
 #[tactic(auto, using(crate::proofs::Same::same_is))]
 fn same_name(left: &Variable, right: &Variable) -> bool
-    ensures { result ≡ bytes_eq (folded left.now.name) (folded right.now.name) }
+    ensures { result ≡ bytes_eq (in_lower_case left.now.name) (in_lower_case right.now.name) }
 {
     left.name.same(&right.name)
 }
 
 fn is_named_again(variable: &Variable, others: &[Variable]) -> bool
-    ensures { result ≡ list_any (λ (v : Variable). bytes_eq (folded variable.now.name) (folded v.name)) others.now }
+    ensures { result ≡ list_any (λ (v : Variable). bytes_eq (in_lower_case variable.now.name) (in_lower_case v.name)) others.now }
 {
     others.iter().any(|other| same_name(variable, other))
 }

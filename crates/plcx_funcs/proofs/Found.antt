@@ -1,10 +1,39 @@
--- Each function is found by its name.
-use Rattle.std.proofs.Common.{◌≡◌, ℕ, List, true, refl, ap, ◌∙◌}
-use Rattle.std.specs.Prelude.{Some}
+-- A function is found by its name, and by no other.
+use Rattle.std.proofs.Common.{◌≡◌, ℕ, List, [], ◌∷◌, Bool, true, false, Option, Some, None, refl, ap, ◌∙◌, subst}
+use Rattle.std.specs.Prelude.{not, IfNone, if◌then◌else◌}
+use Rattle.std.specs.List.{find, list_all}
+use Rattle.std.specs.Option.{option_map}
+use Rattle.std.specs.Str.{bytes_eq, str_eq_ignore_ascii_case}
+use Rattle.std.proofs.lemmas.Bool.{and_parts}
+use Rattle.std.proofs.lemmas.Slice.Eq.{bytes_eq-Decides}
+use Rattle.plcx_types.specs.declared.ty.Ty.{Ty}
 use Rattle.plcx_types.specs.declared.ty.Ty.TheVariants as ty
+use Rattle.plcx_types.specs.Conversion.{conversion_name, NamesConversion}
+use Rattle.plcx_types.specs.Name.{in_lower_case}
+use Rattle.plcx_types.specs.ReadConversion.{conversion_of}
+use Rattle.plcx_types.specs.TypeName.{same_ty}
+use Rattle.plcx_types.proofs.Conversions.{conversion_reads, conversion_is, differs}
+use Rattle.plcx_types.proofs.Wholes.{mapped}
 use Rattle.plcx_funcs.specs.declared.func.Func.{Func}
 use Rattle.plcx_funcs.specs.declared.func.Func.TheVariants as f
-use Rattle.plcx_funcs.specs.Names.{function_name, function_named, is_function}
+use Rattle.plcx_funcs.specs.Names.{function_name, plain_name, is_function, NamesFunction, plain_functions, plain_among, conversion_named, or_else, function_named}
+
+-- no function of the table has the name of a conversion
+not_plain : (from to : Ty) → plain_among plain_functions (conversion_name from to) ≡ None
+not_plain ty.Bool to = refl
+not_plain ty.Byte to = refl
+not_plain ty.Word to = refl
+not_plain ty.Dword to = refl
+not_plain ty.Lword to = refl
+not_plain ty.Sint to = refl
+not_plain ty.Int to = refl
+not_plain ty.Dint to = refl
+not_plain ty.Lint to = refl
+not_plain ty.Usint to = refl
+not_plain ty.Uint to = refl
+not_plain ty.Udint to = refl
+not_plain ty.Ulint to = refl
+not_plain ty.Time to = refl
 
 pub found_again : (g : Func) → is_function g ≡ true → function_named (function_name g) ≡ Some g
 found_again f.Add real = refl
@@ -33,202 +62,86 @@ found_again f.Eq real = refl
 found_again f.Le real = refl
 found_again f.Lt real = refl
 found_again f.Ne real = refl
-found_again (f.Conv ty.Bool ty.Bool) real = cc
-found_again (f.Conv ty.Bool ty.Byte) real = refl
-found_again (f.Conv ty.Bool ty.Word) real = refl
-found_again (f.Conv ty.Bool ty.Dword) real = refl
-found_again (f.Conv ty.Bool ty.Lword) real = refl
-found_again (f.Conv ty.Bool ty.Sint) real = refl
-found_again (f.Conv ty.Bool ty.Int) real = refl
-found_again (f.Conv ty.Bool ty.Dint) real = refl
-found_again (f.Conv ty.Bool ty.Lint) real = refl
-found_again (f.Conv ty.Bool ty.Usint) real = refl
-found_again (f.Conv ty.Bool ty.Uint) real = refl
-found_again (f.Conv ty.Bool ty.Udint) real = refl
-found_again (f.Conv ty.Bool ty.Ulint) real = refl
-found_again (f.Conv ty.Bool ty.Time) real = refl
-found_again (f.Conv ty.Byte ty.Bool) real = refl
-found_again (f.Conv ty.Byte ty.Byte) real = cc
-found_again (f.Conv ty.Byte ty.Word) real = refl
-found_again (f.Conv ty.Byte ty.Dword) real = refl
-found_again (f.Conv ty.Byte ty.Lword) real = refl
-found_again (f.Conv ty.Byte ty.Sint) real = refl
-found_again (f.Conv ty.Byte ty.Int) real = refl
-found_again (f.Conv ty.Byte ty.Dint) real = refl
-found_again (f.Conv ty.Byte ty.Lint) real = refl
-found_again (f.Conv ty.Byte ty.Usint) real = refl
-found_again (f.Conv ty.Byte ty.Uint) real = refl
-found_again (f.Conv ty.Byte ty.Udint) real = refl
-found_again (f.Conv ty.Byte ty.Ulint) real = refl
-found_again (f.Conv ty.Byte ty.Time) real = refl
-found_again (f.Conv ty.Word ty.Bool) real = refl
-found_again (f.Conv ty.Word ty.Byte) real = refl
-found_again (f.Conv ty.Word ty.Word) real = cc
-found_again (f.Conv ty.Word ty.Dword) real = refl
-found_again (f.Conv ty.Word ty.Lword) real = refl
-found_again (f.Conv ty.Word ty.Sint) real = refl
-found_again (f.Conv ty.Word ty.Int) real = refl
-found_again (f.Conv ty.Word ty.Dint) real = refl
-found_again (f.Conv ty.Word ty.Lint) real = refl
-found_again (f.Conv ty.Word ty.Usint) real = refl
-found_again (f.Conv ty.Word ty.Uint) real = refl
-found_again (f.Conv ty.Word ty.Udint) real = refl
-found_again (f.Conv ty.Word ty.Ulint) real = refl
-found_again (f.Conv ty.Word ty.Time) real = refl
-found_again (f.Conv ty.Dword ty.Bool) real = refl
-found_again (f.Conv ty.Dword ty.Byte) real = refl
-found_again (f.Conv ty.Dword ty.Word) real = refl
-found_again (f.Conv ty.Dword ty.Dword) real = cc
-found_again (f.Conv ty.Dword ty.Lword) real = refl
-found_again (f.Conv ty.Dword ty.Sint) real = refl
-found_again (f.Conv ty.Dword ty.Int) real = refl
-found_again (f.Conv ty.Dword ty.Dint) real = refl
-found_again (f.Conv ty.Dword ty.Lint) real = refl
-found_again (f.Conv ty.Dword ty.Usint) real = refl
-found_again (f.Conv ty.Dword ty.Uint) real = refl
-found_again (f.Conv ty.Dword ty.Udint) real = refl
-found_again (f.Conv ty.Dword ty.Ulint) real = refl
-found_again (f.Conv ty.Dword ty.Time) real = refl
-found_again (f.Conv ty.Lword ty.Bool) real = refl
-found_again (f.Conv ty.Lword ty.Byte) real = refl
-found_again (f.Conv ty.Lword ty.Word) real = refl
-found_again (f.Conv ty.Lword ty.Dword) real = refl
-found_again (f.Conv ty.Lword ty.Lword) real = cc
-found_again (f.Conv ty.Lword ty.Sint) real = refl
-found_again (f.Conv ty.Lword ty.Int) real = refl
-found_again (f.Conv ty.Lword ty.Dint) real = refl
-found_again (f.Conv ty.Lword ty.Lint) real = refl
-found_again (f.Conv ty.Lword ty.Usint) real = refl
-found_again (f.Conv ty.Lword ty.Uint) real = refl
-found_again (f.Conv ty.Lword ty.Udint) real = refl
-found_again (f.Conv ty.Lword ty.Ulint) real = refl
-found_again (f.Conv ty.Lword ty.Time) real = refl
-found_again (f.Conv ty.Sint ty.Bool) real = refl
-found_again (f.Conv ty.Sint ty.Byte) real = refl
-found_again (f.Conv ty.Sint ty.Word) real = refl
-found_again (f.Conv ty.Sint ty.Dword) real = refl
-found_again (f.Conv ty.Sint ty.Lword) real = refl
-found_again (f.Conv ty.Sint ty.Sint) real = cc
-found_again (f.Conv ty.Sint ty.Int) real = refl
-found_again (f.Conv ty.Sint ty.Dint) real = refl
-found_again (f.Conv ty.Sint ty.Lint) real = refl
-found_again (f.Conv ty.Sint ty.Usint) real = refl
-found_again (f.Conv ty.Sint ty.Uint) real = refl
-found_again (f.Conv ty.Sint ty.Udint) real = refl
-found_again (f.Conv ty.Sint ty.Ulint) real = refl
-found_again (f.Conv ty.Sint ty.Time) real = refl
-found_again (f.Conv ty.Int ty.Bool) real = refl
-found_again (f.Conv ty.Int ty.Byte) real = refl
-found_again (f.Conv ty.Int ty.Word) real = refl
-found_again (f.Conv ty.Int ty.Dword) real = refl
-found_again (f.Conv ty.Int ty.Lword) real = refl
-found_again (f.Conv ty.Int ty.Sint) real = refl
-found_again (f.Conv ty.Int ty.Int) real = cc
-found_again (f.Conv ty.Int ty.Dint) real = refl
-found_again (f.Conv ty.Int ty.Lint) real = refl
-found_again (f.Conv ty.Int ty.Usint) real = refl
-found_again (f.Conv ty.Int ty.Uint) real = refl
-found_again (f.Conv ty.Int ty.Udint) real = refl
-found_again (f.Conv ty.Int ty.Ulint) real = refl
-found_again (f.Conv ty.Int ty.Time) real = refl
-found_again (f.Conv ty.Dint ty.Bool) real = refl
-found_again (f.Conv ty.Dint ty.Byte) real = refl
-found_again (f.Conv ty.Dint ty.Word) real = refl
-found_again (f.Conv ty.Dint ty.Dword) real = refl
-found_again (f.Conv ty.Dint ty.Lword) real = refl
-found_again (f.Conv ty.Dint ty.Sint) real = refl
-found_again (f.Conv ty.Dint ty.Int) real = refl
-found_again (f.Conv ty.Dint ty.Dint) real = cc
-found_again (f.Conv ty.Dint ty.Lint) real = refl
-found_again (f.Conv ty.Dint ty.Usint) real = refl
-found_again (f.Conv ty.Dint ty.Uint) real = refl
-found_again (f.Conv ty.Dint ty.Udint) real = refl
-found_again (f.Conv ty.Dint ty.Ulint) real = refl
-found_again (f.Conv ty.Dint ty.Time) real = refl
-found_again (f.Conv ty.Lint ty.Bool) real = refl
-found_again (f.Conv ty.Lint ty.Byte) real = refl
-found_again (f.Conv ty.Lint ty.Word) real = refl
-found_again (f.Conv ty.Lint ty.Dword) real = refl
-found_again (f.Conv ty.Lint ty.Lword) real = refl
-found_again (f.Conv ty.Lint ty.Sint) real = refl
-found_again (f.Conv ty.Lint ty.Int) real = refl
-found_again (f.Conv ty.Lint ty.Dint) real = refl
-found_again (f.Conv ty.Lint ty.Lint) real = cc
-found_again (f.Conv ty.Lint ty.Usint) real = refl
-found_again (f.Conv ty.Lint ty.Uint) real = refl
-found_again (f.Conv ty.Lint ty.Udint) real = refl
-found_again (f.Conv ty.Lint ty.Ulint) real = refl
-found_again (f.Conv ty.Lint ty.Time) real = refl
-found_again (f.Conv ty.Usint ty.Bool) real = refl
-found_again (f.Conv ty.Usint ty.Byte) real = refl
-found_again (f.Conv ty.Usint ty.Word) real = refl
-found_again (f.Conv ty.Usint ty.Dword) real = refl
-found_again (f.Conv ty.Usint ty.Lword) real = refl
-found_again (f.Conv ty.Usint ty.Sint) real = refl
-found_again (f.Conv ty.Usint ty.Int) real = refl
-found_again (f.Conv ty.Usint ty.Dint) real = refl
-found_again (f.Conv ty.Usint ty.Lint) real = refl
-found_again (f.Conv ty.Usint ty.Usint) real = cc
-found_again (f.Conv ty.Usint ty.Uint) real = refl
-found_again (f.Conv ty.Usint ty.Udint) real = refl
-found_again (f.Conv ty.Usint ty.Ulint) real = refl
-found_again (f.Conv ty.Usint ty.Time) real = refl
-found_again (f.Conv ty.Uint ty.Bool) real = refl
-found_again (f.Conv ty.Uint ty.Byte) real = refl
-found_again (f.Conv ty.Uint ty.Word) real = refl
-found_again (f.Conv ty.Uint ty.Dword) real = refl
-found_again (f.Conv ty.Uint ty.Lword) real = refl
-found_again (f.Conv ty.Uint ty.Sint) real = refl
-found_again (f.Conv ty.Uint ty.Int) real = refl
-found_again (f.Conv ty.Uint ty.Dint) real = refl
-found_again (f.Conv ty.Uint ty.Lint) real = refl
-found_again (f.Conv ty.Uint ty.Usint) real = refl
-found_again (f.Conv ty.Uint ty.Uint) real = cc
-found_again (f.Conv ty.Uint ty.Udint) real = refl
-found_again (f.Conv ty.Uint ty.Ulint) real = refl
-found_again (f.Conv ty.Uint ty.Time) real = refl
-found_again (f.Conv ty.Udint ty.Bool) real = refl
-found_again (f.Conv ty.Udint ty.Byte) real = refl
-found_again (f.Conv ty.Udint ty.Word) real = refl
-found_again (f.Conv ty.Udint ty.Dword) real = refl
-found_again (f.Conv ty.Udint ty.Lword) real = refl
-found_again (f.Conv ty.Udint ty.Sint) real = refl
-found_again (f.Conv ty.Udint ty.Int) real = refl
-found_again (f.Conv ty.Udint ty.Dint) real = refl
-found_again (f.Conv ty.Udint ty.Lint) real = refl
-found_again (f.Conv ty.Udint ty.Usint) real = refl
-found_again (f.Conv ty.Udint ty.Uint) real = refl
-found_again (f.Conv ty.Udint ty.Udint) real = cc
-found_again (f.Conv ty.Udint ty.Ulint) real = refl
-found_again (f.Conv ty.Udint ty.Time) real = refl
-found_again (f.Conv ty.Ulint ty.Bool) real = refl
-found_again (f.Conv ty.Ulint ty.Byte) real = refl
-found_again (f.Conv ty.Ulint ty.Word) real = refl
-found_again (f.Conv ty.Ulint ty.Dword) real = refl
-found_again (f.Conv ty.Ulint ty.Lword) real = refl
-found_again (f.Conv ty.Ulint ty.Sint) real = refl
-found_again (f.Conv ty.Ulint ty.Int) real = refl
-found_again (f.Conv ty.Ulint ty.Dint) real = refl
-found_again (f.Conv ty.Ulint ty.Lint) real = refl
-found_again (f.Conv ty.Ulint ty.Usint) real = refl
-found_again (f.Conv ty.Ulint ty.Uint) real = refl
-found_again (f.Conv ty.Ulint ty.Udint) real = refl
-found_again (f.Conv ty.Ulint ty.Ulint) real = cc
-found_again (f.Conv ty.Ulint ty.Time) real = refl
-found_again (f.Conv ty.Time ty.Bool) real = refl
-found_again (f.Conv ty.Time ty.Byte) real = refl
-found_again (f.Conv ty.Time ty.Word) real = refl
-found_again (f.Conv ty.Time ty.Dword) real = refl
-found_again (f.Conv ty.Time ty.Lword) real = refl
-found_again (f.Conv ty.Time ty.Sint) real = refl
-found_again (f.Conv ty.Time ty.Int) real = refl
-found_again (f.Conv ty.Time ty.Dint) real = refl
-found_again (f.Conv ty.Time ty.Lint) real = refl
-found_again (f.Conv ty.Time ty.Usint) real = refl
-found_again (f.Conv ty.Time ty.Uint) real = refl
-found_again (f.Conv ty.Time ty.Udint) real = refl
-found_again (f.Conv ty.Time ty.Ulint) real = refl
-found_again (f.Conv ty.Time ty.Time) real = cc
+found_again (f.Conv from to) real =
+    let name = conversion_name from to in
+    ap (λ o. or_else o (conversion_named name)) (not_plain from to)
+    ∙ ap (option_map (λ (types : Ty × Ty). f.Conv types.0 types.1)) (conversion_reads name from to (record { apart = differs (same_ty from to) real; spelled = refl }))
 
-pub found_by_name : (word : List ℕ) (g : Func) → is_function g ≡ true → word ≡ function_name g → function_named word ≡ Some g
-found_by_name word g real same = ap function_named same ∙ found_again g real
+-- a function by its name in lower case
+abbrev by_key : List ℕ → Option Func
+by_key key = or_else (find (λ g. bytes_eq key (in_lower_case (plain_name g))) plain_functions) (option_map (λ types. f.Conv types.0 types.1) (conversion_of key))
+
+pub function_reads : (word : List ℕ) (g : Func) → NamesFunction word g → function_named word ≡ Some g
+function_reads word g names = ap by_key names.spelled ∙ found_again g names.real
+
+-- what is found in a table passes the test, and what each of the table passes
+pub find_has : {A : Type 0} (p q : A → Bool) (xs : List A) (x : A) → list_all q xs ≡ true → find p xs ≡ Some x → (p x ≡ true) × (q x ≡ true)
+find_has p q [] x all h = absurd (cc)
+find_has p q (y ∷ xs) x all h = let parts = and_parts (q y) (list_all q xs) all in by (p y) refl parts.0 (find_has p q xs x parts.1) h
+  where
+    by : (b : Bool) → p y ≡ b → q y ≡ true → (find p xs ≡ Some x → (p x ≡ true) × (q x ≡ true)) → (if b then Some y else find p xs) ≡ Some x → (p x ≡ true) × (q x ≡ true)
+    by true e own later k = let same : y ≡ x = cc in subst (λ z. (p z ≡ true) × (q z ≡ true)) same (e, own)
+    by false e own later k = later k
+
+abbrev is_plain : Func → Bool
+is_plain (f.Conv from to) = false
+is_plain g = true
+
+plain_own : (g : Func) → is_plain g ≡ true → (is_function g ≡ true) × (plain_name g ≡ function_name g)
+plain_own f.Add is = (refl, refl)
+plain_own f.Mul is = (refl, refl)
+plain_own f.Sub is = (refl, refl)
+plain_own f.Div is = (refl, refl)
+plain_own f.Mod is = (refl, refl)
+plain_own f.Abs is = (refl, refl)
+plain_own f.Move is = (refl, refl)
+plain_own f.And is = (refl, refl)
+plain_own f.Or is = (refl, refl)
+plain_own f.Xor is = (refl, refl)
+plain_own f.Not is = (refl, refl)
+plain_own f.Shl is = (refl, refl)
+plain_own f.Shr is = (refl, refl)
+plain_own f.Rol is = (refl, refl)
+plain_own f.Ror is = (refl, refl)
+plain_own f.Sel is = (refl, refl)
+plain_own f.Max is = (refl, refl)
+plain_own f.Min is = (refl, refl)
+plain_own f.Limit is = (refl, refl)
+plain_own f.Mux is = (refl, refl)
+plain_own f.Gt is = (refl, refl)
+plain_own f.Ge is = (refl, refl)
+plain_own f.Eq is = (refl, refl)
+plain_own f.Le is = (refl, refl)
+plain_own f.Lt is = (refl, refl)
+plain_own f.Ne is = (refl, refl)
+plain_own (f.Conv from to) is = absurd (cc)
+
+plain_names : (word : List ℕ) (g : Func) → plain_among plain_functions word ≡ Some g → NamesFunction word g
+plain_names word g h =
+    let found = find_has (λ (k : Func). str_eq_ignore_ascii_case word (plain_name k)) is_plain plain_functions g refl h in
+    let own = plain_own g found.1 in
+    record { real = own.0; spelled = (bytes_eq-Decides _ _).0 found.0 ∙ ap in_lower_case own.1 }
+
+-- a conversion's name, said of its types and of the function
+pub of_conversion : (word : List ℕ) (from to : Ty) → NamesConversion word from to → NamesFunction word (f.Conv from to)
+of_conversion word from to names = record { real = ap not names.apart; spelled = names.spelled }
+
+pub to_conversion : (word : List ℕ) (from to : Ty) → NamesFunction word (f.Conv from to) → NamesConversion word from to
+to_conversion word from to names = record { apart = differs (same_ty from to) names.real; spelled = names.spelled }
+
+conversion_names : (word : List ℕ) (g : Func) → conversion_named word ≡ Some g → NamesFunction word g
+conversion_names word g h =
+    let one = mapped (λ (types : Ty × Ty). f.Conv types.0 types.1) (conversion_of (in_lower_case word)) g h in
+    let names = conversion_is word one.0 one.1 in
+    subst (NamesFunction word) one.2 (of_conversion word one.0.0 one.0.1 names)
+
+pub function_is : (word : List ℕ) (g : Func) → function_named word ≡ Some g → NamesFunction word g
+function_is word g h = by (plain_among plain_functions word) refl h
+  where
+    by : (o : Option Func) → plain_among plain_functions word ≡ o → or_else o (conversion_named word) ≡ Some g → NamesFunction word g
+    by None e k = conversion_names word g k
+    by (Some found) e k = plain_names word g (e ∙ k)
+
+pub no_function : (word : List ℕ) (found : Option Func) → found ≡ function_named word → IfNone found ((g : Func) → NamesFunction word g → ⊥)
+no_function word (Some g) is = tt
+no_function word None is = λ g names. absurd (let both : None ≡ Some g = is ∙ function_reads word g names in cc)

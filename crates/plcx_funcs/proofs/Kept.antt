@@ -1,5 +1,5 @@
 -- Arguments whose type is known, and numbers that stay in their type.
-use Rattle.std.proofs.Common.{◌≡◌, ℕ, ◌≤◌, ◌<◌, ◌^◌, ◌-◌, Bool, true, false, ℤ, pos, negsuc, refl, sym, ap, subst, ◌∙◌, length, List, [], ◌∷◌, take, drop, get_or, slice_index_or, suc, ◌+◌, Ok, arith}
+use Rattle.std.proofs.Common.{◌≡◌, ℕ, ◌≤◌, ◌<◌, ◌^◌, ◌-◌, Bool, true, false, ℤ, pos, negsuc, refl, sym, ap, subst, ◌∙◌, length, List, [], ◌∷◌, take, drop, get_or, suc, ◌+◌, Ok, arith}
 use Rattle.std.proofs.Math.Nat.{mod-le}
 use Rattle.std.proofs.lemmas.Int.{ints}
 use Rattle.std.proofs.lemmas.List.{take_all, length-drop}
@@ -9,8 +9,11 @@ use Rattle.std.specs.List.{fold}
 use Rattle.std.specs.Prelude.{unsigned_abs, EachIndex, ◌≤ℤ◌, if◌then◌else◌}
 use Rattle.plcx_types.specs.declared.ty.Ty.{Ty}
 use Rattle.plcx_types.specs.declared.ty.Ty.TheVariants as ty
-use Rattle.plcx_types.specs.Range.{Bounds, InRange, bounds_of, unsigned}
-use Rattle.plcx_types.specs.TypeName.{all_types, place_of_type, same_ty}
+use Rattle.plcx_types.specs.Range.{InRange, bounds_of}
+use Rattle.plcx_types.specs.declared.ty.Bounds.{Bounds}
+use Rattle.plcx_types.specs.ElementaryTypes.{unsigned}
+use Rattle.plcx_types.specs.TypeName.{same_ty}
+use Rattle.plcx_types.proofs.TypeTable.{same_is}
 use Rattle.plcx_types.specs.Value.{Value}
 use Rattle.plcx_funcs.specs.declared.func.Func.{Func}
 use Rattle.plcx_funcs.specs.declared.func.Func.TheVariants as f
@@ -22,27 +25,9 @@ use Rattle.plcx_funcs.specs.Pins.{least_inputs, input_class}
 use Rattle.plcx_funcs.specs.Applied.{FitsSignature, suits, value, value_at, width, bit_by_bit, both_bits, joined, remainder, turned, applied}
 use Rattle.plcx_funcs.proofs.Counts.{has_least}
 
-at_place : (t : Ty) → slice_index_or all_types (place_of_type t) ty.Bool ≡ t
-at_place ty.Bool = refl
-at_place ty.Byte = refl
-at_place ty.Word = refl
-at_place ty.Dword = refl
-at_place ty.Lword = refl
-at_place ty.Sint = refl
-at_place ty.Int = refl
-at_place ty.Dint = refl
-at_place ty.Lint = refl
-at_place ty.Usint = refl
-at_place ty.Uint = refl
-at_place ty.Udint = refl
-at_place ty.Ulint = refl
-at_place ty.Time = refl
-
--- types of one place are one type
+-- types of one position are one type
 pub one_type : (t u : Ty) → same_ty t u ≡ true → u ≡ t
-one_type t u same =
-    let place : place_of_type t ≡ place_of_type u = grind (arith, same) in
-    sym (at_place u) ∙ ap (λ (i : ℕ). slice_index_or all_types i ty.Bool) (sym place) ∙ at_place t
+one_type t u same = sym (same_is t u same)
 
 -- the first argument of MOD has the type of the group
 pub first_of_mod : (t : Ty) (args : List Value) → FitsSignature f.Mod t args → (value_at args 0).ty ≡ t

@@ -7,6 +7,7 @@ use Rattle.plcx_types.specs.declared.ty.Ty.{Ty}
 use Rattle.plcx_types.specs.declared.ty.Ty.TheVariants as ty
 use Rattle.plcx_types.specs.declared.fault.Fault.{Fault}
 use Rattle.plcx_types.specs.declared.fault.Fault.TheVariants as fault
+use Rattle.plcx_types.specs.ElementaryTypes.{row_of}
 use Rattle.plcx_types.specs.Range.{bounds_of}
 use Rattle.plcx_types.specs.TypeName.{same_ty}
 use Rattle.plcx_types.specs.Value.{Value}
@@ -95,20 +96,7 @@ chosen args (negsuc k) = Err fault.Range
 
 -- how many bits a type has
 abbrev pub width : Ty → ℕ
-width ty.Bool = 1
-width ty.Byte = 8
-width ty.Word = 16
-width ty.Dword = 32
-width ty.Lword = 64
-width ty.Sint = 8
-width ty.Int = 16
-width ty.Dint = 32
-width ty.Lint = 64
-width ty.Usint = 8
-width ty.Uint = 16
-width ty.Udint = 32
-width ty.Ulint = 64
-width ty.Time = 64
+width t = (row_of t).bits
 
 -- a bit string to a narrower one
 abbrev pub narrows : Ty → Ty → Bool
@@ -137,7 +125,7 @@ abbrev pub joined : (ℤ → ℤ → ℤ) → List Value → ℤ
 joined op [] = pos 0
 joined op (v ∷ rest) = fold (λ n w. op n w.n) v.n rest
 
--- all bits turned
+-- the complement, bit by bit
 abbrev pub turned : Ty → ℤ → ℤ
 turned t n = (bounds_of t).high -ℤ n
 

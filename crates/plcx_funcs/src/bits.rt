@@ -7,7 +7,7 @@ ghost use Rattle.plcx_funcs.specs.Types.{is_allowed};
 ghost use Rattle.plcx_funcs.specs.Applied.{value, value_at, width, bit_by_bit, both_bits, joined, turned, moved, shifted_left, shifted_right, rotated_left, rotated_right};
 
 use crate::arithmetic::sure;
-use crate::converting::{power, width};
+use crate::converting::power;
 use crate::func::Func;
 use plcx_types::{Fault, Ty, Val, default_of};
 
@@ -147,7 +147,7 @@ pub(crate) fn shl(ty: Ty, bits: Val, by: i128) -> Result<Val, Fault>
     }
     Ok(of_bits(
         ty,
-        shifted_left(width(ty), bits_of(ty, bits), by.unsigned_abs()),
+        shifted_left(ty.bits(), bits_of(ty, bits), by.unsigned_abs()),
     ))
 }
 
@@ -162,7 +162,7 @@ pub(crate) fn shr(ty: Ty, bits: Val, by: i128) -> Result<Val, Fault>
     }
     Ok(of_bits(
         ty,
-        shifted_right(width(ty), bits_of(ty, bits), by.unsigned_abs()),
+        shifted_right(ty.bits(), bits_of(ty, bits), by.unsigned_abs()),
     ))
 }
 
@@ -177,7 +177,7 @@ pub(crate) fn rol(ty: Ty, bits: Val, by: i128) -> Result<Val, Fault>
     }
     Ok(of_bits(
         ty,
-        rotated_left(width(ty), bits_of(ty, bits), by.unsigned_abs()),
+        rotated_left(ty.bits(), bits_of(ty, bits), by.unsigned_abs()),
     ))
 }
 
@@ -192,6 +192,6 @@ pub(crate) fn ror(ty: Ty, bits: Val, by: i128) -> Result<Val, Fault>
     }
     Ok(of_bits(
         ty,
-        rotated_right(width(ty), bits_of(ty, bits), by.unsigned_abs()),
+        rotated_right(ty.bits(), bits_of(ty, bits), by.unsigned_abs()),
     ))
 }

@@ -1,30 +1,16 @@
 //! Conversions between types.
 ghost use Rattle.std.specs.Prelude.{◌≡◌, ◌<◌, ◌≤◌, ◌^◌, ◌%◌, unsigned_abs};
-ghost use Rattle.plcx_funcs.specs.Applied.{width, narrows, converted};
+ghost use Rattle.plcx_funcs.specs.Applied.{narrows, converted};
 
 use crate::allowed::is_word;
 use crate::arithmetic::{checked, sure};
 use crate::bits::of_bits;
 use plcx_types::{Fault, Ty, Val};
 
-pub(crate) fn width(ty: Ty) -> u32
-    ensures width { result ≡ width ty }
-    ensures most { result < 65 }
-    ensures least { 0 < result }
-{
-    match ty {
-        Ty::Bool => 1,
-        Ty::Byte | Ty::Sint | Ty::Usint => 8,
-        Ty::Word | Ty::Int | Ty::Uint => 16,
-        Ty::Dword | Ty::Dint | Ty::Udint => 32,
-        Ty::Lword | Ty::Lint | Ty::Ulint | Ty::Time => 64,
-    }
-}
-
 fn narrows(from: Ty, to: Ty) -> bool
     ensures { result ≡ narrows from to }
 {
-    is_word(from) && is_word(to) && width(to) < width(from)
+    is_word(from) && is_word(to) && to.bits() < from.bits()
 }
 
 pub(crate) fn power(bits: u32) -> u128
@@ -51,7 +37,7 @@ pub(crate) fn convert(from: Ty, to: Ty, n: i128) -> Result<Val, Fault>
     if to == Ty::Bool {
         Ok(sure(to, i128::from(n != 0)))
     } else if narrows(from, to) {
-        Ok(of_bits(to, low_bits(n, width(to))))
+        Ok(of_bits(to, low_bits(n, to.bits())))
     } else {
         checked(to, n)
     }

@@ -11,10 +11,11 @@ mod fitting;
 mod func;
 mod name;
 mod pins;
+mod table;
 
 pub use allowed::Allowed;
 pub use applying::apply;
 pub use fitting::fits_signature;
 pub use func::Func;
-pub use name::lookup;
+pub use name::{FuncName, lookup};
 pub use pins::{Class, FuncPins, Pin0, PinName, signature};

@@ -1,9 +1,11 @@
 //! The pins of the functions.
-ghost use Rattle.std.specs.Prelude.{◌≡◌, ◌<◌, Some, None, if◌then◌else◌};
+ghost use Rattle.std.specs.Prelude.{◌≡◌, ◌<◌, ◌-◌, ◌^◌, Some, None, if◌then◌else◌};
+ghost use Rattle.plcx_funcs.specs.Pins.{least, most, letters, number, class_at};
 ghost use Rattle.plcx_funcs.specs.Pins.{least_inputs, most_inputs, can_have, group_types, input_letters, input_number, input_class, output_class};
 
 use crate::allowed::Allowed;
 use crate::func::Func;
+use crate::table::{Inputs, row};
 use plcx_types::Ty;
 
 /// Where a pin's type comes from: the group's, any of the whole numbers, or one that is fixed.
@@ -36,89 +38,45 @@ pub struct FuncPins {
     pub allowed: Allowed,
 }
 
+fn least(inputs: Inputs) -> u32
+    ensures { result ≡ least inputs }
+{
+    match inputs {
+        Inputs::Numbered { least, .. } => least,
+        Inputs::Single | Inputs::Converted { .. } => 1,
+        Inputs::Shifted => 2,
+        Inputs::Selected | Inputs::Limited | Inputs::Chosen => 3,
+    }
+}
+
+fn most(inputs: Inputs) -> u32
+    ensures { result ≡ most inputs }
+{
+    match inputs {
+        Inputs::Numbered { most, .. } => most,
+        Inputs::Single | Inputs::Converted { .. } => 1,
+        Inputs::Shifted => 2,
+        Inputs::Selected | Inputs::Limited => 3,
+        Inputs::Chosen => 63,
+    }
+}
+
 pub(crate) fn least_inputs(func: Func) -> u32
     ensures { result ≡ least_inputs func }
 {
-    match func {
-        Func::Abs | Func::Move | Func::Not => 1,
-        Func::Sub
-        | Func::Div
-        | Func::Mod
-        | Func::Ne
-        | Func::Shl
-        | Func::Shr
-        | Func::Rol
-        | Func::Ror
-        | Func::Add
-        | Func::Mul
-        | Func::And
-        | Func::Or
-        | Func::Xor
-        | Func::Max
-        | Func::Min
-        | Func::Gt
-        | Func::Ge
-        | Func::Eq
-        | Func::Le
-        | Func::Lt => 2,
-        Func::Sel | Func::Limit | Func::Mux => 3,
-        Func::Conv { .. } => 1,
-    }
+    least(row(func).inputs)
 }
 
 pub(crate) fn most_inputs(func: Func) -> u32
     ensures { result ≡ most_inputs func }
 {
-    match func {
-        Func::Abs | Func::Move | Func::Not => 1,
-        Func::Sub
-        | Func::Div
-        | Func::Mod
-        | Func::Ne
-        | Func::Shl
-        | Func::Shr
-        | Func::Rol
-        | Func::Ror => 2,
-        Func::Add
-        | Func::Mul
-        | Func::And
-        | Func::Or
-        | Func::Xor
-        | Func::Max
-        | Func::Min
-        | Func::Gt
-        | Func::Ge
-        | Func::Eq
-        | Func::Le
-        | Func::Lt
-        | Func::Mux => 63,
-        Func::Sel | Func::Limit => 3,
-        Func::Conv { .. } => 1,
-    }
+    most(row(func).inputs)
 }
 
 pub(crate) fn group_types(func: Func) -> Allowed
     ensures { result ≡ group_types func }
 {
-    match func {
-        Func::Add | Func::Sub => Allowed::WholeTime,
-        Func::Mul | Func::Div | Func::Mod | Func::Abs => Allowed::Whole,
-        Func::Move
-        | Func::Sel
-        | Func::Max
-        | Func::Min
-        | Func::Limit
-        | Func::Mux
-        | Func::Gt
-        | Func::Ge
-        | Func::Eq
-        | Func::Le
-        | Func::Lt
-        | Func::Ne => Allowed::All,
-        Func::And | Func::Or | Func::Xor | Func::Not => Allowed::Bits,
-        Func::Shl | Func::Shr | Func::Rol | Func::Ror => Allowed::Words,
-        Func::Conv { .. } => Allowed::Nothing,
-    }
+    row(func).allowed
 }
 
 /// The function with so many inputs, where it can have them.
@@ -136,41 +94,46 @@ pub fn signature(func: Func, inputs: u32) -> Option<FuncPins>
     }
 }
 
-fn input_letters(func: Func, i: u32) -> &'static str
-    ensures { result.now ≡ input_letters func i }
+fn letters(inputs: Inputs, i: u32) -> &'static str
+    ensures { result.now ≡ letters inputs i }
 {
-    match func {
-        Func::Shl | Func::Shr | Func::Rol | Func::Ror if i != 0 => "N",
-        Func::Sel if i == 0 => "G",
-        Func::Mux if i == 0 => "K",
-        Func::Limit if i == 0 => "MN",
-        Func::Limit if i != 1 => "MX",
+    match inputs {
+        Inputs::Shifted if i != 0 => "N",
+        Inputs::Selected if i == 0 => "G",
+        Inputs::Chosen if i == 0 => "K",
+        Inputs::Limited if i == 0 => "MN",
+        Inputs::Limited if i != 1 => "MX",
         _ => "IN",
     }
 }
 
-fn input_number(pins: FuncPins, i: u32) -> Option<u32>
-    requires { i < pins.inputs }
-    ensures { result ≡ input_number pins.func i }
+fn number(inputs: Inputs, i: u32) -> Option<u32>
+    requires { i < 2 ^ 32 - 1 }
+    ensures { result ≡ number inputs i }
 {
-    match pins.func {
-        Func::Abs | Func::Move | Func::Not | Func::Conv { .. } => None,
-        Func::Shl | Func::Shr | Func::Rol | Func::Ror | Func::Limit => None,
-        Func::Sel | Func::Mux => i.checked_sub(1),
-        _ => Some(i + 1),
+    match inputs {
+        Inputs::Numbered { .. } => Some(i + 1),
+        Inputs::Selected | Inputs::Chosen => i.checked_sub(1),
+        _ => None,
+    }
+}
+
+fn class_at(inputs: Inputs, i: u32) -> Class
+    ensures { result ≡ class_at inputs i }
+{
+    match inputs {
+        Inputs::Shifted if i != 0 => Class::Lone,
+        Inputs::Selected if i == 0 => Class::Fixed(Ty::Bool),
+        Inputs::Chosen if i == 0 => Class::Lone,
+        Inputs::Converted { from } => Class::Fixed(from),
+        _ => Class::Group,
     }
 }
 
 pub(crate) fn input_class(func: Func, i: u32) -> Class
     ensures { result ≡ input_class func i }
 {
-    match func {
-        Func::Shl | Func::Shr | Func::Rol | Func::Ror if i != 0 => Class::Lone,
-        Func::Sel if i == 0 => Class::Fixed(Ty::Bool),
-        Func::Mux if i == 0 => Class::Lone,
-        Func::Conv { from, .. } => Class::Fixed(from),
-        _ => Class::Group,
-    }
+    class_at(row(func).inputs, i)
 }
 
 impl FuncPins {
@@ -181,12 +144,19 @@ impl FuncPins {
         ensures number { result.name.number ≡ input_number self.now.func i }
         ensures class { result.class ≡ input_class self.now.func i }
     {
+        let FuncPins {
+            func,
+            inputs: count,
+            ..
+        } = *self;
+        prove!(i < count);
+        let inputs = row(func).inputs;
         Pin0 {
             name: PinName {
-                letters: input_letters(self.func, i),
-                number: input_number(*self, i),
+                letters: letters(inputs, i),
+                number: number(inputs, i),
             },
-            class: input_class(self.func, i),
+            class: class_at(inputs, i),
         }
     }
 
@@ -194,33 +164,6 @@ impl FuncPins {
     pub fn out(&self) -> Class
         ensures { result ≡ output_class self.now.func }
     {
-        match self.func {
-            Func::Gt | Func::Ge | Func::Eq | Func::Le | Func::Lt | Func::Ne => {
-                Class::Fixed(Ty::Bool)
-            }
-            Func::Conv { to, .. } => Class::Fixed(to),
-            _ => Class::Group,
-        }
-    }
-}
-
-#[cfg(test)]
-mod tests {
-    use super::*;
-
-    #[test]
-    fn has_the_pins_of_a_choice(rt: HostRuntime) {
-        assert_eq!(rt; signature(Func::Mux, 2), None);
-        assert_eq!(rt; signature(Func::Mux, 64), None);
-        if let Some(pins) = signature(Func::Mux, 3) {
-            let second = pins.input(1);
-            assert_eq!(rt; second.name.letters, "IN");
-            assert_eq!(rt; second.name.number, Some(0));
-            assert_eq!(rt; pins.input(0).class, Class::Lone);
-            assert_eq!(rt; pins.out(), Class::Group);
-            assert!(rt; pins.allowed.has(Ty::Time));
-        } else {
-            assert!(rt; false);
-        }
+        row(self.func).out
     }
 }

@@ -1,4 +1,4 @@
--- The longest front of a form.
+-- The longest prefix of a form.
 use Rattle.std.proofs.Common.{◌≡◌, ◌+◌, ◌-◌, ◌<◌, ◌≤◌, ℕ, zero, suc, inl, inr, List, [], ◌∷◌, ◌++◌, length, take, drop, get_or, Option, Some, None, refl, ap, arith, sym, ◌∙◌, subst, nat_le, append-nil}
 use Rattle.std.specs.Option.{option_map}
 use Rattle.std.proofs.lemmas.Bool.{cases_Bool, leb-true, leb-false, eq-eqb}
@@ -6,7 +6,7 @@ use Rattle.std.proofs.lemmas.List.{length-take, length-append, take-append-drop,
 use Rattle.std.proofs.Math.Seq.{take-append_seam}
 use Rattle.std.proofs.lemmas.Bool.{cases_lt}
 use Rattle.plcx_types.specs.Reading.{behind}
-use Rattle.plcx_types.proofs.Behind.{behind_is}
+use Rattle.plcx_types.proofs.BehindWord.{behind_is}
 use Rattle.plcx_lex.specs.Scan.{LongestOf, NoneOf, Finds, Either, After, longer}
 
 -- ---- fronts
@@ -92,7 +92,7 @@ word_here word text rest is =
 pub not_word : (word text : List ℕ) → behind word text ≡ None → NoneOf (λ front. front ≡ word) text
 not_word word text none = λ m le h. let bad = sym none ∙ begins word [] text m (h ∙ sym (append-nil word)) in absurd (cc)
 
--- ---- a longest front that is looked for from the left
+-- ---- a longest prefix that is looked for from the left
 
 -- among the fronts of at most so many bytes
 abbrev pub Best : (List ℕ → Type 0) → List ℕ → ℕ → Option ℕ → Type 0

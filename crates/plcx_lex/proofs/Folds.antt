@@ -3,7 +3,7 @@ use Rattle.std.proofs.Common.{◌≡◌, ◌<◌, ◌≤◌, ℕ, zero, suc, Boo
 use Rattle.std.specs.Char.{to_ascii_lowercase}
 use Rattle.std.specs.List.{list_all}
 use Rattle.std.proofs.lemmas.Bool.{cases_Bool, and_parts}
-use Rattle.plcx_types.specs.Name.{is_first_byte, is_next_byte, folded}
+use Rattle.plcx_types.specs.Name.{is_first_byte, is_next_byte, in_lower_case}
 use Rattle.plcx_types.specs.Reading.{front, back}
 
 pub fold_next : (b : ℕ) → is_next_byte (to_ascii_lowercase b) ≡ is_next_byte b
@@ -16,18 +16,18 @@ fold_first b = grind arith
 abbrev pub IsFair : (ℕ → Bool) → Type 0
 IsFair p = (b : ℕ) → p (to_ascii_lowercase b) ≡ p b
 
-pub fold_all : (p : ℕ → Bool) (xs : List ℕ) → IsFair p → list_all p (folded xs) ≡ list_all p xs
+pub fold_all : (p : ℕ → Bool) (xs : List ℕ) → IsFair p → list_all p (in_lower_case xs) ≡ list_all p xs
 fold_all p [] fair = refl
 fold_all p (x ∷ xs) fair = rw (fair x, fold_all p xs fair)
 
-pub fold_front : (p : ℕ → Bool) (xs : List ℕ) → IsFair p → front p (folded xs) ≡ folded (front p xs)
+pub fold_front : (p : ℕ → Bool) (xs : List ℕ) → IsFair p → front p (in_lower_case xs) ≡ in_lower_case (front p xs)
 fold_front p [] fair = refl
 fold_front p (x ∷ xs) fair = elim (cases_Bool (p x)) [
   | inl passes ↦ rw (fair x, passes, fold_front p xs fair)
   | inr fails ↦ rw (fair x, fails)
 ]
 
-pub fold_back : (p : ℕ → Bool) (xs : List ℕ) → IsFair p → back p (folded xs) ≡ folded (back p xs)
+pub fold_back : (p : ℕ → Bool) (xs : List ℕ) → IsFair p → back p (in_lower_case xs) ≡ in_lower_case (back p xs)
 fold_back p [] fair = refl
 fold_back p (x ∷ xs) fair = elim (cases_Bool (p x)) [
   | inl passes ↦ rw (fair x, passes, fold_back p xs fair)

@@ -10,6 +10,7 @@ pub mod PlaceScan
 pub mod AddressScan
 pub mod SignScan
 pub mod TokenForms
+pub mod WordTable
 pub mod TokenScan
 pub mod OneKind
 pub mod PieceLaws

@@ -1,12 +1,13 @@
 -- What reads the numbers of a text reads just these.
 use Rattle.std.proofs.Common.{◌≡◌, ◌⊎◌, ℕ, ℤ, Bool, inl, inr, List, [], ◌∷◌, ◌++◌, take, drop, Option, Some, None, refl, ap, sym, ◌∙◌, subst, nat_eq, append-nil}
 use Rattle.std.specs.Prelude.{codes}
+use Rattle.std.specs.List.{find}
 use Rattle.std.specs.Str.{bytes_eq}
 use Rattle.std.proofs.lemmas.Bool.{cases_Bool, eqb-true}
 use Rattle.std.proofs.lemmas.Slice.Eq.{bytes_eq-Decides}
 use Rattle.plcx_types.specs.declared.ty.Ty.{Ty}
 use Rattle.plcx_types.specs.declared.ty.Ty.TheVariants as ty
-use Rattle.plcx_types.specs.Name.{folded, is_next_byte}
+use Rattle.plcx_types.specs.Name.{in_lower_case, is_next_byte}
 use Rattle.plcx_types.specs.TypeName.{all_types}
 use Rattle.plcx_types.specs.Literal.{type_word, IsTruth, IsNumber}
 use Rattle.plcx_types.specs.Literal as form
@@ -17,29 +18,13 @@ use Rattle.plcx_types.proofs.Literals.{number_reads, number_is, truth_is}
 use Rattle.plcx_types.specs.Duration.{IsTime}
 use Rattle.plcx_lex.specs.Number as number
 use Rattle.plcx_lex.specs.Number.{IsTyped, IsLiteral}
-use Rattle.plcx_lex.specs.ReadNumber.{first_named, named, of_type, behind_word, typed_of, literal_of}
+use Rattle.plcx_lex.specs.ReadNumber.{named, of_type, behind_word, typed_of, literal_of}
 use Rattle.plcx_lex.specs.Scan.{IsRun}
 use Rattle.plcx_lex.proofs.Folds.{fold_next, fold_front, fold_back, run_splits}
 
-pub type_word_folded : (t : Ty) → folded (type_word t) ≡ type_word t
-type_word_folded ty.Bool = refl
-type_word_folded ty.Byte = refl
-type_word_folded ty.Word = refl
-type_word_folded ty.Dword = refl
-type_word_folded ty.Lword = refl
-type_word_folded ty.Sint = refl
-type_word_folded ty.Int = refl
-type_word_folded ty.Dint = refl
-type_word_folded ty.Lint = refl
-type_word_folded ty.Usint = refl
-type_word_folded ty.Uint = refl
-type_word_folded ty.Udint = refl
-type_word_folded ty.Ulint = refl
-type_word_folded ty.Time = refl
-
 -- a name of a type, its number behind it
 named_reads : (t : Ty) (rest : List ℕ) → typed_of (type_word t ++ (codes "#" ++ rest)) ≡ of_type (number_behind t rest) t
-unfolding typed_of behind_word first_named
+unfolding typed_of behind_word
 named_reads ty.Bool rest = refl
 named_reads ty.Byte rest = refl
 named_reads ty.Word rest = refl
@@ -70,11 +55,10 @@ typed_reads text t n (number.typed {t = u} {text = rest} is) = named_reads u res
 typed_reads text t n (number.short_time {text = rest} is) = short_reads rest ∙ ap (λ o. of_type o ty.Time) (number_reads ty.Time rest n (form.time is))
 
 pub literal_reads : (text : List ℕ) (t : Ty) (n : ℤ) → IsLiteral text t n → literal_of text ≡ Some (t, n)
-literal_reads text t n is = typed_reads (folded text) t n is
+literal_reads text t n is = typed_reads (in_lower_case text) t n is
 
 -- which name was found
-pub first_named_is : (ts : List Ty) (word : List ℕ) (t : Ty) → first_named ts word ≡ Some t → word ≡ type_word t
-unfolding first_named
+pub first_named_is : (ts : List Ty) (word : List ℕ) (t : Ty) → find (λ u. bytes_eq word (type_word u)) ts ≡ Some t → word ≡ type_word t
 first_named_is [] word t found = absurd (cc)
 first_named_is (u ∷ us) word t found = elim (cases_Bool (bytes_eq word (type_word u))) [
   | inl same ↦ let one : Some u ≡ Some t = rw same at found in let is : u ≡ t = cc in (bytes_eq-Decides _ _).0 same ∙ ap type_word is
@@ -126,10 +110,10 @@ behind_is word (b ∷ rest) t n found = elim (cases_Bool (nat_eq b 35)) [
 
 pub literal_is : (text : List ℕ) (t : Ty) (n : ℤ) → literal_of text ≡ Some (t, n) → IsLiteral text t n
 unfolding typed_of
-literal_is text t n found = subst (λ x. IsTyped x t n) (front_back is_next_byte (folded text)) (behind_is (front is_next_byte (folded text)) (back is_next_byte (folded text)) t n found)
+literal_is text t n found = subst (λ x. IsTyped x t n) (front_back is_next_byte (in_lower_case text)) (behind_is (front is_next_byte (in_lower_case text)) (back is_next_byte (in_lower_case text)) t n found)
 
 -- the word at the front of a text, and what stands behind it
-pub word_split : (text : List ℕ) (n : ℕ) → IsRun is_next_byte text n → (front is_next_byte (folded text) ≡ folded (take n text)) × (back is_next_byte (folded text) ≡ folded (drop n text))
+pub word_split : (text : List ℕ) (n : ℕ) → IsRun is_next_byte text n → (front is_next_byte (in_lower_case text) ≡ in_lower_case (take n text)) × (back is_next_byte (in_lower_case text) ≡ in_lower_case (drop n text))
 word_split text n run =
     let split = run_splits is_next_byte text n run.within run.all run.ends in
-    (fold_front is_next_byte text fold_next ∙ ap folded split.fronts, fold_back is_next_byte text fold_next ∙ ap folded split.backs)
+    (fold_front is_next_byte text fold_next ∙ ap in_lower_case split.fronts, fold_back is_next_byte text fold_next ∙ ap in_lower_case split.backs)

@@ -3,7 +3,7 @@ use Rattle.std.proofs.Common.{◌≡◌, ◌+◌, ◌<◌, ◌≤◌, ◌&&◌, 
 use Rattle.std.specs.Char.{to_ascii_lowercase}
 use Rattle.std.proofs.lemmas.Bool.{eqb-true, false_from_ne_true}
 use Rattle.std.proofs.lemmas.List.{take_more, get_or-map, length-map}
-use Rattle.plcx_types.specs.Name.{folded}
+use Rattle.plcx_types.specs.Name.{in_lower_case}
 use Rattle.plcx_types.specs.Numeral.{is_digit, digit_value, IsNumeral}
 use Rattle.plcx_types.specs.Reading.{with_digit, numeral_from, numeral}
 use Rattle.plcx_types.proofs.Numerals.{numeral_reads, numeral_is}
@@ -69,40 +69,40 @@ scan_ends base xs i n seen best end scanned = best_finds (Numeral base) xs i bes
 
 -- ---- the same of a text in any case
 
-pub folded_get : (text : List ℕ) (i : ℕ) → i < length text → get_or (folded text) i 0 ≡ to_ascii_lowercase (get_or text i 0)
+pub folded_get : (text : List ℕ) (i : ℕ) → i < length text → get_or (in_lower_case text) i 0 ≡ to_ascii_lowercase (get_or text i 0)
 folded_get text i lt = get_or-map to_ascii_lowercase text i 0 0 lt
 
-pub folded_length : (text : List ℕ) → length (folded text) ≡ length text
+pub folded_length : (text : List ℕ) → length (in_lower_case text) ≡ length text
 folded_length text = length-map text to_ascii_lowercase
 
 pub reads_over : (base : ℕ) (text : List ℕ) (i n digit : ℕ) (seen : Bool) (best : Option ℕ) → 0 < base → i < length text → is_digit base (to_ascii_lowercase (get_or text i 0)) ≡ true → digit ≡ digit_value (to_ascii_lowercase (get_or text i 0)) → with_digit base n digit ≡ None
-    → Scanned base (folded text) i n seen best → Finds (Numeral base) (folded text) best
+    → Scanned base (in_lower_case text) i n seen best → Finds (Numeral base) (in_lower_case text) best
 reads_over base text i n digit seen best some lt is value over scanned =
     let here = folded_get text i lt in
-    scan_over base (folded text) i n seen best some (omega (arith, folded_length text)) (rw here is) (rw here (rw value at over)) scanned
+    scan_over base (in_lower_case text) i n seen best some (omega (arith, folded_length text)) (rw here is) (rw here (rw value at over)) scanned
 
 pub reads_digit : (base : ℕ) (text : List ℕ) (i n digit more : ℕ) (seen : Bool) (best : Option ℕ) → i < length text → is_digit base (to_ascii_lowercase (get_or text i 0)) ≡ true → digit ≡ digit_value (to_ascii_lowercase (get_or text i 0)) → with_digit base n digit ≡ Some more
-    → Scanned base (folded text) i n seen best → Scanned base (folded text) (i + 1) more true (Some (i + 1))
+    → Scanned base (in_lower_case text) i n seen best → Scanned base (in_lower_case text) (i + 1) more true (Some (i + 1))
 reads_digit base text i n digit more seen best lt is value fits scanned =
     let here = folded_get text i lt in
-    let next = scan_digit base (folded text) i n more seen best (omega (arith, folded_length text)) (rw here is) (rw here (rw value at fits)) scanned in
-    subst (λ j. Scanned base (folded text) j more true (Some j)) (sym (add-one i)) next
+    let next = scan_digit base (in_lower_case text) i n more seen best (omega (arith, folded_length text)) (rw here is) (rw here (rw value at fits)) scanned in
+    subst (λ j. Scanned base (in_lower_case text) j more true (Some j)) (sym (add-one i)) next
 
-pub reads_gap : (base : ℕ) (text : List ℕ) (i n : ℕ) (best : Option ℕ) → 0 < base → i < length text → is_digit base (to_ascii_lowercase (get_or text i 0)) ≡ false → get_or text i 0 ≡ 95 → Scanned base (folded text) i n true best → Scanned base (folded text) (i + 1) n false best
+pub reads_gap : (base : ℕ) (text : List ℕ) (i n : ℕ) (best : Option ℕ) → 0 < base → i < length text → is_digit base (to_ascii_lowercase (get_or text i 0)) ≡ false → get_or text i 0 ≡ 95 → Scanned base (in_lower_case text) i n true best → Scanned base (in_lower_case text) (i + 1) n false best
 reads_gap base text i n best some lt other gap scanned =
     let here = folded_get text i lt in
     let mark : nat_eq (to_ascii_lowercase (get_or text i 0)) 95 ≡ true = ap (λ b. nat_eq (to_ascii_lowercase b) 95) gap in
-    let next = scan_gap base (folded text) i n best some (omega (arith, folded_length text)) (rw here other) (rw here mark) scanned in
-    subst (λ j. Scanned base (folded text) j n false best) (sym (add-one i)) next
+    let next = scan_gap base (in_lower_case text) i n best some (omega (arith, folded_length text)) (rw here other) (rw here mark) scanned in
+    subst (λ j. Scanned base (in_lower_case text) j n false best) (sym (add-one i)) next
 
 lower_mark : (b : ℕ) → nat_eq (to_ascii_lowercase b) 95 ≡ true → b ≡ 95
 lower_mark b h = let is : to_ascii_lowercase b ≡ 95 = eqb-true _ 95 h in grind arith
 
-pub reads_other : (base : ℕ) (text : List ℕ) (i n : ℕ) (best : Option ℕ) → 0 < base → i < length text → is_digit base (to_ascii_lowercase (get_or text i 0)) ≡ false → (get_or text i 0 ≡ 95 → ⊥) → Scanned base (folded text) i n true best → Finds (Numeral base) (folded text) best
+pub reads_other : (base : ℕ) (text : List ℕ) (i n : ℕ) (best : Option ℕ) → 0 < base → i < length text → is_digit base (to_ascii_lowercase (get_or text i 0)) ≡ false → (get_or text i 0 ≡ 95 → ⊥) → Scanned base (in_lower_case text) i n true best → Finds (Numeral base) (in_lower_case text) best
 reads_other base text i n best some lt other none scanned =
     let here = folded_get text i lt in
     let no : nat_eq (to_ascii_lowercase (get_or text i 0)) 95 ≡ false = false_from_ne_true _ (λ h. none (lower_mark (get_or text i 0) h)) in
-    scan_other base (folded text) i n true best some (omega (arith, folded_length text)) (rw here other) (rw here no) scanned
+    scan_other base (in_lower_case text) i n true best some (omega (arith, folded_length text)) (rw here other) (rw here no) scanned
 
-pub reads_unseen : (base : ℕ) (text : List ℕ) (i n : ℕ) (best : Option ℕ) → 0 < base → i < length text → is_digit base (to_ascii_lowercase (get_or text i 0)) ≡ false → Scanned base (folded text) i n false best → Finds (Numeral base) (folded text) best
-reads_unseen base text i n best some lt other scanned = let here = folded_get text i lt in scan_other base (folded text) i n false best some (omega (arith, folded_length text)) (rw here other) refl scanned
+pub reads_unseen : (base : ℕ) (text : List ℕ) (i n : ℕ) (best : Option ℕ) → 0 < base → i < length text → is_digit base (to_ascii_lowercase (get_or text i 0)) ≡ false → Scanned base (in_lower_case text) i n false best → Finds (Numeral base) (in_lower_case text) best
+reads_unseen base text i n best some lt other scanned = let here = folded_get text i lt in scan_other base (in_lower_case text) i n false best some (omega (arith, folded_length text)) (rw here other) refl scanned

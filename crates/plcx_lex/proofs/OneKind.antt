@@ -6,7 +6,7 @@ use Rattle.std.specs.Str.{bytes_eq}
 use Rattle.std.proofs.lemmas.Bool.{and_parts}
 use Rattle.std.proofs.lemmas.List.Folds.{list_all-append}
 use Rattle.plcx_types.specs.declared.ty.Ty.{Ty}
-use Rattle.plcx_types.specs.Name.{folded, is_next_byte, is_identifier}
+use Rattle.plcx_types.specs.Name.{in_lower_case, is_next_byte, is_identifier}
 use Rattle.plcx_types.specs.Reserved.{is_keyword, is_in, keywords}
 use Rattle.plcx_types.specs.Literal.{IsTruth, type_word}
 use Rattle.plcx_types.specs.Literal as form
@@ -18,18 +18,18 @@ use Rattle.plcx_lex.specs.declared.token.TokenKind.TheVariants as kind
 use Rattle.plcx_lex.proofs.TokenForms.{token_starts, fold_identifier, keyword_word, letter_no_digit, letter_no_percent, letter_no_sign, digit_no_percent, digit_no_sign, sign_no_percent}
 
 -- keywords in any case
-same_keyword : (word other : List ℕ) → folded word ≡ folded other → is_keyword word ≡ is_keyword other
+same_keyword : (word other : List ℕ) → in_lower_case word ≡ in_lower_case other → is_keyword word ≡ is_keyword other
 same_keyword word other same = go keywords
   where
     go : (table : List (List ℕ)) → is_in table word ≡ is_in table other
     go [] = refl
-    go (entry ∷ table) = ap (λ x. bytes_eq x (folded entry) || is_in table word) same ∙ ap (λ x. bytes_eq (folded other) (folded entry) || x) (go table)
+    go (entry ∷ table) = ap (λ x. bytes_eq x (in_lower_case entry) || is_in table word) same ∙ ap (λ x. bytes_eq (in_lower_case other) (in_lower_case entry) || x) (go table)
 
 record Truths (text : List ℕ) : Type 0 where
   truth : is_truth text ≡ true
   keyword : is_keyword text ≡ true
 
-truths : (text xs : List ℕ) (n : ℤ) → folded text ≡ xs → IsTruth xs n → Truths text
+truths : (text xs : List ℕ) (n : ℤ) → in_lower_case text ≡ xs → IsTruth xs n → Truths text
 truths text xs n same form.IsTruth.truth = record { truth = ap (λ x. bytes_eq x (codes "true") || bytes_eq x (codes "false")) same; keyword = same_keyword text (codes "true") same }
 truths text xs n same form.falsehood = record { truth = ap (λ x. bytes_eq x (codes "true") || bytes_eq x (codes "false")) same; keyword = same_keyword text (codes "false") same }
 
@@ -43,16 +43,16 @@ word_no_mark : (xs word rest : List ℕ) → xs ≡ word ++ 35 ∷ rest → is_i
 word_no_mark xs word rest same is = no_mark word rest (sym (ap (list_all is_next_byte) same) ∙ (and_parts _ (list_all is_next_byte xs) is).1)
 
 -- a number that is a word
-number_truth : (text xs : List ℕ) (t : Ty) (n : ℤ) → folded text ≡ xs → IsTyped xs t n → is_identifier text ≡ true → Truths text
+number_truth : (text xs : List ℕ) (t : Ty) (n : ℤ) → in_lower_case text ≡ xs → IsTyped xs t n → is_identifier text ≡ true → Truths text
 number_truth text xs t n same (number.IsTyped.truth is) word = truths text xs n same is
-number_truth text xs t n same (number.typed {t = u} {text = rest} is) word = absurd (word_no_mark (folded text) (type_word u) rest same (fold_identifier text ∙ word))
-number_truth text xs t n same (number.short_time {text = rest} is) word = absurd (word_no_mark (folded text) (codes "t") rest same (fold_identifier text ∙ word))
+number_truth text xs t n same (number.typed {t = u} {text = rest} is) word = absurd (word_no_mark (in_lower_case text) (type_word u) rest same (fold_identifier text ∙ word))
+number_truth text xs t n same (number.short_time {text = rest} is) word = absurd (word_no_mark (in_lower_case text) (codes "t") rest same (fold_identifier text ∙ word))
 
 keyword_number : (text : List ℕ) → IsToken kind.Keyword text → IsToken kind.Number text → ⊥
-keyword_number text p q = let both = number_truth text (folded text) q.0 q.1 refl q.2 (keyword_word text p.0) in let bad = sym p.1 ∙ both.truth in cc
+keyword_number text p q = let both = number_truth text (in_lower_case text) q.0 q.1 refl q.2 (keyword_word text p.0) in let bad = sym p.1 ∙ both.truth in cc
 
 name_number : (text : List ℕ) → IsToken kind.Name text → IsToken kind.Number text → ⊥
-name_number text p q = let both = number_truth text (folded text) q.0 q.1 refl q.2 p.0 in let bad = sym p.1 ∙ both.keyword in cc
+name_number text p q = let both = number_truth text (in_lower_case text) q.0 q.1 refl q.2 p.0 in let bad = sym p.1 ∙ both.keyword in cc
 
 keyword_name : (text : List ℕ) → IsToken kind.Keyword text → IsToken kind.Name text → ⊥
 keyword_name text p q = let bad = sym q.1 ∙ p.0 in cc

@@ -4,7 +4,8 @@ use Rattle.std.specs.Prelude.{codes}
 use Rattle.std.proofs.lemmas.Bool.{cases_Bool, cases_lt, eqb-true, eqb-false}
 use Rattle.std.proofs.lemmas.List.{get_or-take, length-take, take-take}
 use Rattle.plcx_types.specs.Name.{is_first_byte}
-use Rattle.plcx_lex.specs.Lexis.{is_blank, is_decimal, is_one_of, IsToken, ClosesAt, IsBracketed, IsLine, IsComment, IsBlank, Longest, NoComment, IsPiece}
+use Rattle.plcx_types.specs.Address.{is_one_of}
+use Rattle.plcx_lex.specs.Lexis.{is_blank, is_decimal, IsToken, ClosesAt, IsBracketed, IsLine, IsComment, IsBlank, Longest, NoComment, IsPiece}
 use Rattle.plcx_lex.specs.declared.token.TokenKind.{TokenKind}
 use Rattle.plcx_lex.specs.declared.token.TokenKind.TheVariants as kind
 use Rattle.plcx_lex.specs.Scan.{AnyToken, NoPiece}

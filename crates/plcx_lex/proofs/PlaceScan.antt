@@ -6,11 +6,12 @@ use Rattle.std.specs.List.{list_all}
 use Rattle.std.proofs.lemmas.Bool.{cases_lt, true_from_ne_false}
 use Rattle.std.proofs.lemmas.List.{get_or-take, length-take, length-append, take-take, length-drop}
 use Rattle.std.proofs.lemmas.List.Folds.{list_all_at}
-use Rattle.plcx_types.specs.Name.{folded}
+use Rattle.plcx_types.specs.Name.{in_lower_case}
 use Rattle.plcx_types.specs.Numeral.{is_digit}
 use Rattle.plcx_types.specs.Duration.{AreDigits}
-use Rattle.plcx_lex.specs.Lexis.{is_decimal, is_one_of, ArePlaces, IsAddress}
-use Rattle.plcx_lex.specs.Lexis as lexis
+use Rattle.plcx_types.specs.Address.{is_one_of, ArePlaces, IsAddressForm}
+use Rattle.plcx_lex.specs.Lexis.{is_decimal}
+use Rattle.plcx_types.specs.Address as address
 use Rattle.plcx_lex.specs.Scan.{NoneOf, LongestOf, IsRun}
 use Rattle.plcx_lex.proofs.Folds.{IsFair, fold_all}
 use Rattle.plcx_lex.proofs.NumeralScan.{folded_get, folded_length}
@@ -34,7 +35,7 @@ pub record Digits (xs : List ℕ) (n : ℕ) : Type 0 where
   pub all : list_all is_decimal (take n xs) ≡ true
   pub ends : n < 9 → n < length xs → is_decimal (get_or xs n 0) ≡ false
 
-pub digits_folded : (text : List ℕ) (n : ℕ) → IsRun is_decimal (take 9 text) n → Digits (folded text) n
+pub digits_folded : (text : List ℕ) (n : ℕ) → IsRun is_decimal (take 9 text) n → Digits (in_lower_case text) n
 digits_folded text n run = record {
   within = omega (arith, run.within, length-take 9 text, folded_length text);
   few = omega (arith, run.within, length-take 9 text);
@@ -45,7 +46,7 @@ digits_folded text n run = record {
     cut : take n (take 9 text) ≡ take n text
     cut = take-take n 9 text (omega (arith, run.within, length-take 9 text))
 
-    folded_end : n < 9 → n < length text → is_decimal (get_or (folded text) n 0) ≡ false
+    folded_end : n < 9 → n < length text → is_decimal (get_or (in_lower_case text) n 0) ≡ false
     folded_end near lt = ap is_decimal (folded_get text n lt) ∙ fair_decimal (get_or text n 0) ∙ ap is_decimal (sym (get_or-take 9 text n 0 near)) ∙ run.ends (omega (arith, length-take 9 text))
 
 passes_at : (xs : List ℕ) (i : ℕ) → i < length xs → list_all is_decimal xs ≡ true → is_decimal (get_or xs i 0) ≡ true
@@ -95,8 +96,8 @@ way : (most : ℕ) (xs : List ℕ) (n m : ℕ) → Digits xs n → m ≤ length 
 way most xs n m run le is = go (take m xs) refl is
   where
     go : (ys : List ℕ) → take m xs ≡ ys → ArePlaces (suc most) ys → ((0 < m) × (m ≤ n)) ⊎ ((0 < n) × Goes most xs n m)
-    go ys same (lexis.last own) = inl (omega (arith, own.some, ap length same, length-take m xs), digits_in xs n m run le (subst (AreDigits 9) (sym same) own))
-    go ys same (lexis.more {digits = digits} {rest = rest} own others) =
+    go ys same (address.last own) = inl (omega (arith, own.some, ap length same, length-take m xs), digits_in xs n m run le (subst (AreDigits 9) (sym same) own))
+    go ys same (address.more {digits = digits} {rest = rest} own others) =
         let count = digits_are xs digits rest n m run le same own in
         let far : length digits < m = omega (arith, ap length same, length-take m xs, length-append digits (46 ∷ rest)) in
         let parts = same_rest 46 xs digits rest m same in
@@ -114,30 +115,30 @@ no_places : (ys : List ℕ) → ArePlaces zero ys → ⊥
 no_places ys is = elim is [ ]
 
 run_places : (most : ℕ) (xs : List ℕ) (n : ℕ) → 0 < n → Digits xs n → ArePlaces (suc most) (take n xs)
-run_places most xs n some run = lexis.last (record { all = all_pass is_decimal (is_digit 10) (take n xs) digit_is run.all; some = omega (arith, length-take n xs, run.within); few = omega (arith, length-take n xs, run.few) })
+run_places most xs n some run = address.last (record { all = all_pass is_decimal (is_digit 10) (take n xs) digit_is run.all; some = omega (arith, length-take n xs, run.within); few = omega (arith, length-take n xs, run.few) })
 
-point_raw : (text : List ℕ) (n : ℕ) → n < length text → get_or (folded text) n 0 ≡ 46 → get_or text n 0 ≡ 46
+point_raw : (text : List ℕ) (n : ℕ) → n < length text → get_or (in_lower_case text) n 0 ≡ 46 → get_or text n 0 ≡ 46
 point_raw text n lt is = go (get_or text n 0) (sym (folded_get text n lt) ∙ is)
   where
     go : (b : ℕ) → to_ascii_lowercase b ≡ 46 → b ≡ 46
     go b h = grind arith
 
 -- nothing is found
-pub places_none : (most : ℕ) (text : List ℕ) (n : ℕ) → IsRun is_decimal (take 9 text) n → (most ≡ 0) ⊎ (n ≡ 0) → NoneOf (ArePlaces most) (folded text)
-places_none zero text n run none m le h = no_places (take m (folded text)) h
+pub places_none : (most : ℕ) (text : List ℕ) (n : ℕ) → IsRun is_decimal (take 9 text) n → (most ≡ 0) ⊎ (n ≡ 0) → NoneOf (ArePlaces most) (in_lower_case text)
+places_none zero text n run none m le h = no_places (take m (in_lower_case text)) h
 places_none (suc most) text n run none m le h = elim none [
   | inl bad ↦ absurd (omega arith)
-  | inr zero_n ↦ elim (way most (folded text) n m (digits_folded text n run) le h) [
+  | inr zero_n ↦ elim (way most (in_lower_case text) n m (digits_folded text n run) le h) [
     | inl a ↦ (let pos = a.0 in let small = a.1 in absurd (omega arith))
     | inr b ↦ (let pos = b.0 in absurd (omega arith))
   ]
 ]
 
 -- the digits alone are found
-pub places_digits : (most : ℕ) (text : List ℕ) (n : ℕ) → 0 < most → 0 < n → IsRun is_decimal (take 9 text) n → (n < length text → get_or text n 0 ≡ 46 → NoneOf (ArePlaces (most - 1)) (folded (drop (n + 1) text))) → LongestOf (ArePlaces most) (folded text) n
+pub places_digits : (most : ℕ) (text : List ℕ) (n : ℕ) → 0 < most → 0 < n → IsRun is_decimal (take 9 text) n → (n < length text → get_or text n 0 ≡ 46 → NoneOf (ArePlaces (most - 1)) (in_lower_case (drop (n + 1) text))) → LongestOf (ArePlaces most) (in_lower_case text) n
 places_digits zero text n pos some run other = absurd (omega arith)
 places_digits (suc most) text n pos some run other =
-    let xs = folded text in
+    let xs = in_lower_case text in
     let digits = digits_folded text n run in
     record {
       within = digits.within;
@@ -150,15 +151,15 @@ places_digits (suc most) text n pos some run other =
             let none = other lt' (point_raw text n lt' goes.mark) in
             let one : suc most - 1 ≡ most = omega arith in
             none (m - (n + 1)) (omega (arith, length-drop (n + 1) xs, ap length (fold_drop (n + 1) text)))
-            (subst (λ k. ArePlaces k (take (m - (n + 1)) (folded (drop (n + 1) text)))) (sym one) (subst (λ ys. ArePlaces most (take (m - (n + 1)) ys)) (sym (fold_drop (n + 1) text)) goes.rest))
+            (subst (λ k. ArePlaces k (take (m - (n + 1)) (in_lower_case (drop (n + 1) text)))) (sym one) (subst (λ ys. ArePlaces most (take (m - (n + 1)) ys)) (sym (fold_drop (n + 1) text)) goes.rest))
       ];
     }
 
 -- more places follow
-pub places_more : (most : ℕ) (text : List ℕ) (n more : ℕ) → 0 < most → 0 < n → IsRun is_decimal (take 9 text) n → n < length text → get_or text n 0 ≡ 46 → LongestOf (ArePlaces (most - 1)) (folded (drop (n + 1) text)) more → LongestOf (ArePlaces most) (folded text) (n + 1 + more)
+pub places_more : (most : ℕ) (text : List ℕ) (n more : ℕ) → 0 < most → 0 < n → IsRun is_decimal (take 9 text) n → n < length text → get_or text n 0 ≡ 46 → LongestOf (ArePlaces (most - 1)) (in_lower_case (drop (n + 1) text)) more → LongestOf (ArePlaces most) (in_lower_case text) (n + 1 + more)
 places_more zero text n more pos some run lt mark found = absurd (omega arith)
 places_more (suc most) text n more pos some run lt mark found =
-    let xs = folded text in
+    let xs = in_lower_case text in
     let digits = digits_folded text n run in
     let one : suc most - 1 ≡ most = omega arith in
     let rest : LongestOf (ArePlaces most) (drop (n + 1) xs) more = subst (λ k. LongestOf (ArePlaces k) (drop (n + 1) xs) more) one (subst (λ ys. LongestOf (ArePlaces (suc most - 1)) ys more) (fold_drop (n + 1) text) found) in
@@ -168,7 +169,7 @@ places_more (suc most) text n more pos some run lt mark found =
     let own : AreDigits 9 (take n xs) = record { all = all_pass is_decimal (is_digit 10) (take n xs) digit_is digits.all; some = omega (arith, length-take n xs, digits.within); few = omega (arith, length-take n xs, digits.few) } in
     record {
       within = omega (arith, rest.within, length-drop (n + 1) xs);
-      holds = subst (ArePlaces (suc most)) (sym shape) (lexis.more own rest.holds);
+      holds = subst (ArePlaces (suc most)) (sym shape) (address.more own rest.holds);
       longest = λ m far le h. elim (way most xs n m digits le h) [
         | inl a ↦ (let small = a.1 in absurd (omega arith))
         | inr b ↦ (let goes = b.1 in rest.longest (m - (n + 1)) (omega arith) (omega (arith, length-drop (n + 1) xs)) goes.rest)

@@ -5,8 +5,10 @@ use Rattle.std.specs.List.{list_all, list_any}
 use Rattle.std.specs.Str.{bytes_eq}
 use Rattle.std.proofs.lemmas.Bool.{cases_Bool, and_parts, leb-true}
 use Rattle.std.proofs.lemmas.Slice.Eq.{bytes_eq-Decides}
-use Rattle.plcx_lex.specs.Lexis.{is_one_of, signs}
-use Rattle.plcx_lex.specs.Scan.{NoneOf, LongestOf, Sign, is_pair}
+use Rattle.plcx_types.specs.Address.{is_one_of}
+use Rattle.plcx_lex.specs.Lexis.{sign_texts}
+use Rattle.plcx_lex.specs.Scan.{NoneOf, LongestOf, LongestSign, IsSign, Sign, is_pair}
+use Rattle.plcx_lex.specs.declared.terminal.Terminal.{Terminal}
 
 -- what all entries of a table have, a text among them has
 pub listed : (p : List ℕ → Bool) (table : List (List ℕ)) (text : List ℕ) → list_all p table ≡ true → list_any (bytes_eq text) table ≡ true → p text ≡ true
@@ -34,16 +36,16 @@ or_assoc : (a b c : Bool) → ((a || b) || c) ≡ (a || (b || c))
 or_assoc true b c = refl
 or_assoc false b c = refl
 
-pub one_byte : (b : ℕ) → list_any (bytes_eq (b ∷ [])) signs ≡ is_one_of (codes ":;,.()+-*/=<>") b
+pub one_byte : (b : ℕ) → list_any (bytes_eq (b ∷ [])) sign_texts ≡ is_one_of (codes ":;,.()+-*/=<>") b
 one_byte b = simp (and_false, and_true) refl
 
-pub two_bytes : (b c : ℕ) → list_any (bytes_eq (b ∷ c ∷ [])) signs ≡ is_pair b c
+pub two_bytes : (b c : ℕ) → list_any (bytes_eq (b ∷ c ∷ [])) sign_texts ≡ is_pair b c
 two_bytes b c = simp (and_false, and_true, or_false, or_assoc) refl
 
-short_sign : (text : List ℕ) → list_any (bytes_eq text) signs ≡ true → length text ≤ 2
-short_sign text any = leb-true (length text) 2 (listed (λ t. nat_le (length t) 2) signs text refl any)
+short_sign : (text : List ℕ) → list_any (bytes_eq text) sign_texts ≡ true → length text ≤ 2
+short_sign text any = leb-true (length text) 2 (listed (λ t. nat_le (length t) 2) sign_texts text refl any)
 
-pub no_sign_empty : list_any (bytes_eq []) signs ≡ false
+pub no_sign_empty : list_any (bytes_eq []) sign_texts ≡ false
 no_sign_empty = refl
 
 pub sign_none : NoneOf Sign []
@@ -85,9 +87,29 @@ none_found b c text pair other (suc (suc zero)) le h = let bad = sym (two_bytes 
 none_found b c [] pair other (suc (suc (suc m))) le h = omega arith
 none_found b c (d ∷ ds) pair other (suc (suc (suc m))) le h = omega (arith, short_sign (b ∷ c ∷ d ∷ take m ds) h)
 
-pub first_at : (text : List ℕ) → 2 ≤ length text → is_pair (get_or text 0 0) (get_or text 1 0) ≡ false → is_one_of (codes ":;,.()+-*/=<>") (get_or text 0 0) ≡ true → LongestOf Sign text 1
-first_at [] two pair is = absurd (omega arith)
-first_at (b ∷ []) two pair is = absurd (omega arith)
-first_at (b ∷ c ∷ text) two pair is = first_found b c text pair is
+pub pair_sign : (b c : ℕ) (text : List ℕ) (t : Terminal) → is_pair b c ≡ true → IsSign t (b ∷ c ∷ []) → LongestSign (b ∷ c ∷ text) t 2
+pair_sign b c text t pair is = record { sign = pair_found b c text pair; is = is }
 
-pub ruleset sign_rules = (sign_none, single_found, single_none, pair_found, first_found, none_found)
+pub single_sign : (b : ℕ) (t : Terminal) → is_one_of (codes ":;,.()+-*/=<>") b ≡ true → IsSign t (b ∷ []) → LongestSign (b ∷ []) t 1
+single_sign b t single is = record { sign = single_found b single; is = is }
+
+pub first_sign : (b c : ℕ) (text : List ℕ) (t : Terminal) → is_pair b c ≡ false → is_one_of (codes ":;,.()+-*/=<>") b ≡ true → IsSign t (b ∷ []) → LongestSign (b ∷ c ∷ text) t 1
+first_sign b c text t pair single is = record { sign = first_found b c text pair single; is = is }
+
+-- the same by the bytes at the front
+pub pair_at : (text : List ℕ) (t : Terminal) → 2 ≤ length text → is_pair (get_or text 0 0) (get_or text 1 0) ≡ true → IsSign t (get_or text 0 0 ∷ get_or text 1 0 ∷ []) → LongestSign text t 2
+pair_at [] t two pair is = absurd (omega arith)
+pair_at (b ∷ []) t two pair is = absurd (omega arith)
+pair_at (b ∷ c ∷ text) t two pair is = pair_sign b c text t pair is
+
+pub first_at : (text : List ℕ) (t : Terminal) → 2 ≤ length text → is_pair (get_or text 0 0) (get_or text 1 0) ≡ false → is_one_of (codes ":;,.()+-*/=<>") (get_or text 0 0) ≡ true → IsSign t (get_or text 0 0 ∷ []) → LongestSign text t 1
+first_at [] t two pair single is = absurd (omega arith)
+first_at (b ∷ []) t two pair single is = absurd (omega arith)
+first_at (b ∷ c ∷ text) t two pair single is = first_sign b c text t pair single is
+
+pub none_at : (text : List ℕ) → 2 ≤ length text → is_pair (get_or text 0 0) (get_or text 1 0) ≡ false → is_one_of (codes ":;,.()+-*/=<>") (get_or text 0 0) ≡ false → NoneOf Sign text
+none_at [] two pair other = absurd (omega arith)
+none_at (b ∷ []) two pair other = absurd (omega arith)
+none_at (b ∷ c ∷ text) two pair other = none_found b c text pair other
+
+pub ruleset sign_rules = (sign_none, single_sign, single_none, pair_sign, first_sign, none_found)

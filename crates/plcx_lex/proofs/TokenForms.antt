@@ -1,23 +1,22 @@
 -- Which tokens begin with which bytes, and the longest token at the front of a text.
-use Rattle.std.proofs.Common.{◌≡◌, ◌⊎◌, ◌<◌, ◌&&◌, not, nat_eq, nat_le, nat_lt, ℕ, ℤ, Bool, true, false, inl, inr, List, [], ◌∷◌, ◌++◌, length, get_or, Some, None, refl, ap, arith, sym, ◌∙◌}
+use Rattle.std.proofs.Common.{◌≡◌, ◌⊎◌, ◌<◌, ◌&&◌, not, nat_eq, nat_le, nat_lt, ℕ, ℤ, Bool, true, false, inl, inr, List, [], ◌∷◌, ◌++◌, length, get_or, Some, refl, ap, arith, sym, ◌∙◌}
 use Rattle.std.specs.Prelude.{codes}
 use Rattle.std.specs.Char.{to_ascii_lowercase}
 use Rattle.std.specs.List.{list_all}
-use Rattle.std.specs.Str.{bytes_eq, str_eq_ignore_ascii_case}
+use Rattle.std.specs.Str.{str_eq_ignore_ascii_case}
 use Rattle.std.proofs.lemmas.Bool.{cases_Bool, and_parts, eqb-true}
 use Rattle.std.proofs.lemmas.Slice.Eq.{bytes_eq-Decides}
 use Rattle.plcx_types.specs.declared.ty.Ty.{Ty}
 use Rattle.plcx_types.specs.declared.ty.Ty.TheVariants as ty
-use Rattle.plcx_types.specs.Name.{folded, is_first_byte, is_next_byte, is_identifier}
+use Rattle.plcx_types.specs.Name.{in_lower_case, is_first_byte, is_next_byte, is_identifier}
 use Rattle.plcx_types.specs.Reserved.{is_keyword, is_in, keywords}
 use Rattle.plcx_types.specs.Literal.{type_word, IsTruth}
 use Rattle.plcx_types.specs.Literal as form
-use Rattle.plcx_types.specs.ReadLiteral.{truth}
-use Rattle.plcx_types.proofs.Literals.{truth_is}
 use Rattle.plcx_lex.specs.Number as number
 use Rattle.plcx_lex.specs.Number.{IsTyped, IsLiteral}
-use Rattle.plcx_lex.specs.ReadNumber.{named, first_named}
-use Rattle.plcx_lex.specs.Lexis.{is_truth, is_decimal, is_one_of, signs, IsAddress, IsToken}
+use Rattle.plcx_lex.specs.ReadNumber.{named}
+use Rattle.plcx_types.specs.Address.{is_one_of, IsAddressForm}
+use Rattle.plcx_lex.specs.Lexis.{is_decimal, sign_texts, IsToken}
 use Rattle.plcx_lex.specs.declared.token.TokenKind.{TokenKind}
 use Rattle.plcx_lex.specs.declared.token.TokenKind.TheVariants as kind
 use Rattle.plcx_lex.specs.Scan.{Typed, Sign}
@@ -28,7 +27,7 @@ use Rattle.plcx_lex.proofs.SignScan.{listed}
 
 -- ---- words in any case
 
-pub fold_identifier : (text : List ℕ) → is_identifier (folded text) ≡ is_identifier text
+pub fold_identifier : (text : List ℕ) → is_identifier (in_lower_case text) ≡ is_identifier text
 fold_identifier [] = refl
 fold_identifier (b ∷ bs) = rw (folded_length bs, fold_all is_next_byte bs fold_next, fold_next b, fold_first b) refl
 
@@ -38,7 +37,7 @@ in_table (entry ∷ table) word all any =
     let parts = and_parts (is_identifier entry) (list_all is_identifier table) all in
     elim (cases_Bool (str_eq_ignore_ascii_case word entry)) [
       | inl same ↦
-          let is : folded word ≡ folded entry = (bytes_eq-Decides (folded word) (folded entry)).0 same in
+          let is : in_lower_case word ≡ in_lower_case entry = (bytes_eq-Decides (in_lower_case word) (in_lower_case entry)).0 same in
           sym (fold_identifier word) ∙ ap is_identifier is ∙ fold_identifier entry ∙ parts.0
       | inr other ↦ in_table table word parts.1 (rw other at any)
     ]
@@ -50,23 +49,9 @@ truth_word : (xs : List ℕ) (n : ℤ) → IsTruth xs n → is_identifier xs ≡
 truth_word xs n form.IsTruth.truth = refl
 truth_word xs n form.falsehood = refl
 
-pub no_truth : (word : List ℕ) → truth (folded word) ≡ None → is_truth word ≡ false
-no_truth word none = go (bytes_eq (folded word) (codes "true")) (bytes_eq (folded word) (codes "false")) refl refl
-  where
-    go : (a b : Bool) → bytes_eq (folded word) (codes "true") ≡ a → bytes_eq (folded word) (codes "false") ≡ b → is_truth word ≡ false
-    go true b p q = absurd (let bad = rw p at none in cc)
-    go false true p q = absurd (let bad = rw (p, q) at none in cc)
-    go false false p q = rw (p, q) refl
-
-pub number_word : (word : List ℕ) (n : ℤ) → truth (folded word) ≡ Some n → IsToken kind.Number word
-number_word word n found = (ty.Bool, n, number.IsTyped.truth (truth_is (folded word) n found))
-
-pub ruleset kind_rules = (no_truth, number_word)
-
 -- ---- numbers
 
 named_again : (t : Ty) → named (type_word t) ≡ Some t
-unfolding first_named
 named_again ty.Bool = refl
 named_again ty.Byte = refl
 named_again ty.Word = refl
@@ -118,7 +103,7 @@ typed_letter xs t n (number.IsTyped.truth is) = identifier_letter xs (truth_word
 typed_letter xs t n (number.typed {t = u} {text = rest} is) = type_letter u (codes "#" ++ rest)
 typed_letter xs t n (number.short_time is) = record { some = omega arith; first = refl }
 
-letter_folded : (text : List ℕ) → Letter (folded text) → Letter text
+letter_folded : (text : List ℕ) → Letter (in_lower_case text) → Letter text
 letter_folded text is = let some : 0 < length text = omega (arith, is.some, folded_length text) in record { some = some; first = sym (fold_first (get_or text 0 0)) ∙ ap is_first_byte (sym (folded_get text 0 some)) ∙ is.first }
 
 -- ---- first bytes
@@ -142,9 +127,9 @@ digits_start : (text : List ℕ) → list_all is_decimal text ≡ true → 0 < l
 digits_start [] all some = absurd (omega arith)
 digits_start (b ∷ bs) all some = (and_parts (is_decimal b) (list_all is_decimal bs) all).0
 
-address_start : (text : List ℕ) → IsAddress (folded text) → Starts kind.Address text
+address_start : (text : List ℕ) → IsAddressForm (in_lower_case text) → Starts kind.Address text
 address_start text is =
-    let front = head (folded text) is in
+    let front = head (in_lower_case text) is in
     let some : 0 < length text = omega (arith, front.long, folded_length text) in
     record { some = some; first = percent (get_or text 0 0) (sym (folded_get text 0 some) ∙ front.mark) }
   where
@@ -153,12 +138,12 @@ address_start text is =
 
 sign_start : (text : List ℕ) → Sign text → Starts kind.Sign text
 sign_start [] is = absurd (cc)
-sign_start (b ∷ bs) is = record { some = omega arith; first = listed (λ t. is_one_of (codes ":;,.()+-*/=<>") (get_or t 0 0)) signs (b ∷ bs) refl is }
+sign_start (b ∷ bs) is = record { some = omega arith; first = listed (λ t. is_one_of (codes ":;,.()+-*/=<>") (get_or t 0 0)) sign_texts (b ∷ bs) refl is }
 
 pub token_starts : (k : TokenKind) (text : List ℕ) → IsToken k text → Starts k text
 token_starts kind.Keyword text is = starts_word kind.Keyword text (λ b h. h) (identifier_letter text (keyword_word text is.0))
 token_starts kind.Name text is = starts_word kind.Name text (λ b h. h) (identifier_letter text is.0)
-token_starts kind.Number text is = starts_word kind.Number text (λ b h. h) (letter_folded text (typed_letter (folded text) is.0 is.1 is.2))
+token_starts kind.Number text is = starts_word kind.Number text (λ b h. h) (letter_folded text (typed_letter (in_lower_case text) is.0 is.1 is.2))
 token_starts kind.Digits text is = record { some = is.1; first = digits_start text is.0 is.1 }
 token_starts kind.Address text is = address_start text is
 token_starts kind.Sign text is = sign_start text is
@@ -189,10 +174,10 @@ pub sign_no_percent : (b : ℕ) → is_one_of (codes ":;,.()+-*/=<>") b ≡ true
 sign_no_percent b p q = grind arith
 
 -- a token that begins with a letter is a word or a number with its type's name
-pub word_way : (k : TokenKind) (text : List ℕ) → is_first_byte (get_or text 0 0) ≡ true → IsToken k text → (is_identifier text ≡ true) ⊎ Typed (folded text)
+pub word_way : (k : TokenKind) (text : List ℕ) → is_first_byte (get_or text 0 0) ≡ true → IsToken k text → (is_identifier text ≡ true) ⊎ Typed (in_lower_case text)
 word_way kind.Keyword text first is = inl (keyword_word text is.0)
 word_way kind.Name text first is = inl is.0
-word_way kind.Number text first is = elim (number_way (folded text) is.0 is.1 is.2) [ inl word ↦ inl (sym (fold_identifier text) ∙ word) | inr typed ↦ inr typed ]
+word_way kind.Number text first is = elim (number_way (in_lower_case text) is.0 is.1 is.2) [ inl word ↦ inl (sym (fold_identifier text) ∙ word) | inr typed ↦ inr typed ]
 word_way kind.Digits text first is = absurd (letter_no_digit (get_or text 0 0) first (token_starts kind.Digits text is).first)
 word_way kind.Address text first is = absurd (letter_no_percent (get_or text 0 0) first (token_starts kind.Address text is).first)
 word_way kind.Sign text first is = absurd (letter_no_sign (get_or text 0 0) first (token_starts kind.Sign text is).first)
@@ -205,7 +190,7 @@ digits_way kind.Digits text first is = is
 digits_way kind.Address text first is = absurd (digit_no_percent (get_or text 0 0) first (token_starts kind.Address text is).first)
 digits_way kind.Sign text first is = absurd (digit_no_sign (get_or text 0 0) first (token_starts kind.Sign text is).first)
 
-pub address_way : (k : TokenKind) (text : List ℕ) → get_or text 0 0 ≡ 37 → IsToken k text → IsAddress (folded text)
+pub address_way : (k : TokenKind) (text : List ℕ) → get_or text 0 0 ≡ 37 → IsToken k text → IsAddressForm (in_lower_case text)
 address_way kind.Keyword text first is = absurd (letter_no_percent (get_or text 0 0) (token_starts kind.Keyword text is).first first)
 address_way kind.Name text first is = absurd (letter_no_percent (get_or text 0 0) (token_starts kind.Name text is).first first)
 address_way kind.Number text first is = absurd (letter_no_percent (get_or text 0 0) (token_starts kind.Number text is).first first)

@@ -8,7 +8,7 @@ use Rattle.std.proofs.lemmas.List.Folds.{list_all_at}
 use Rattle.std.proofs.lemmas.Bool.{true_from_ne_false}
 use Rattle.plcx_types.specs.declared.ty.Ty.{Ty}
 use Rattle.plcx_types.specs.declared.ty.Ty.TheVariants as ty
-use Rattle.plcx_types.specs.Name.{folded, is_next_byte}
+use Rattle.plcx_types.specs.Name.{in_lower_case, is_next_byte}
 use Rattle.plcx_types.specs.Literal.{type_word}
 use Rattle.plcx_lex.specs.ReadNumber.{named}
 use Rattle.plcx_lex.specs.Scan.{NoneOf, LongestOf, Number, Typed, IsRun}
@@ -52,7 +52,7 @@ pub record Runs (xs : List ℕ) (n : ℕ) : Type 0 where
   pub all : list_all is_next_byte (take n xs) ≡ true
   pub ends : n < 128 → n < length xs → is_next_byte (get_or xs n 0) ≡ false
 
-pub run_folded : (text : List ℕ) (n : ℕ) → IsRun is_next_byte (take 128 text) n → Runs (folded text) n
+pub run_folded : (text : List ℕ) (n : ℕ) → IsRun is_next_byte (take 128 text) n → Runs (in_lower_case text) n
 run_folded text n run = record {
   within = omega (arith, run.within, length-take 128 text, folded_length text);
   all = ap (list_all is_next_byte) (sym (fold_take n text)) ∙ fold_all is_next_byte (take n text) fold_next ∙ ap (list_all is_next_byte) (sym cut) ∙ run.all;
@@ -63,7 +63,7 @@ run_folded text n run = record {
     cut : take n (take 128 text) ≡ take n text
     cut = take-take n 128 text (omega (arith, run.within, length-take 128 text))
 
-    folded_end : n < 128 → n < length text → is_next_byte (get_or (folded text) n 0) ≡ false
+    folded_end : n < 128 → n < length text → is_next_byte (get_or (in_lower_case text) n 0) ≡ false
     folded_end near lt = ap is_next_byte (folded_get text n lt) ∙ fold_next (get_or text n 0) ∙ ap is_next_byte (sym (get_or-take 128 text n 0 near)) ∙ run.ends (omega (arith, length-take 128 text))
 
 pub mark_at : (word rest : List ℕ) (b : ℕ) → get_or (word ++ b ∷ rest) (length word) 0 ≡ b
@@ -142,7 +142,7 @@ cut_at (x ∷ xs) (suc n) k lt =
     let two : suc n + 1 ≡ suc (n + 1) = omega arith in
     rw (one, two) (ap (λ ys. x ∷ ys) (cut_at xs n k (omega arith)))
 
-pub fold_drop : (n : ℕ) (text : List ℕ) → folded (drop n text) ≡ drop n (folded text)
+pub fold_drop : (n : ℕ) (text : List ℕ) → in_lower_case (drop n text) ≡ drop n (in_lower_case text)
 fold_drop n text = sym (drop-map to_ascii_lowercase n text)
 
 pub rest_all : (text : List ℕ) (n : ℕ) → take (length text - n) (drop n text) ≡ drop n text
@@ -151,19 +151,19 @@ rest_all text n = take_all _ (drop n text) (omega (arith, length-drop n text))
 same_type : (word : List ℕ) (t u : Ty) → named word ≡ Some t → named word ≡ Some u → t ≡ u
 same_type word t u p q = let both : Some t ≡ Some u = sym p ∙ q in cc
 
-mark_folded : (text : List ℕ) (n : ℕ) → n < length text → get_or text n 0 ≡ 35 → get_or (folded text) n 0 ≡ 35
+mark_folded : (text : List ℕ) (n : ℕ) → n < length text → get_or text n 0 ≡ 35 → get_or (in_lower_case text) n 0 ≡ 35
 mark_folded text n lt is = folded_get text n lt ∙ ap to_ascii_lowercase is
 
-mark_raw : (text : List ℕ) (n : ℕ) → n < length text → get_or (folded text) n 0 ≡ 35 → get_or text n 0 ≡ 35
+mark_raw : (text : List ℕ) (n : ℕ) → n < length text → get_or (in_lower_case text) n 0 ≡ 35 → get_or text n 0 ≡ 35
 mark_raw text n lt is = go (get_or text n 0) (sym (folded_get text n lt) ∙ is)
   where
     go : (b : ℕ) → to_ascii_lowercase b ≡ 35 → b ≡ 35
     go b h = grind arith
 
-pub typed_found : (text : List ℕ) (n long : ℕ) (t : Ty) → IsRun is_next_byte (take 128 text) n → n < length text → get_or text n 0 ≡ 35 → named (folded (take n text)) ≡ Some t → LongestOf (Number t) (folded (drop (n + 1) text)) long
-    → LongestOf Typed (folded text) (n + 1 + long)
+pub typed_found : (text : List ℕ) (n long : ℕ) (t : Ty) → IsRun is_next_byte (take 128 text) n → n < length text → get_or text n 0 ≡ 35 → named (in_lower_case (take n text)) ≡ Some t → LongestOf (Number t) (in_lower_case (drop (n + 1) text)) long
+    → LongestOf Typed (in_lower_case text) (n + 1 + long)
 typed_found text n long t run lt mark name found =
-    let xs = folded text in
+    let xs = in_lower_case text in
     let runs = run_folded text n run in
     let rest : LongestOf (Number t) (drop (n + 1) xs) long = subst (λ ys. LongestOf (Number t) ys long) (fold_drop (n + 1) text) found in
     let named_here : named (take n xs) ≡ Some t = ap named (sym (fold_take n text)) ∙ name in
@@ -176,23 +176,23 @@ typed_found text n long t run lt mark name found =
           rest.longest (m - (n + 1)) (omega arith) (omega (arith, length-drop (n + 1) xs)) (subst (λ u. Number u (take (m - (n + 1)) (drop (n + 1) xs))) (same_type (take n xs) parts.t t parts.name named_here) parts.number));
     }
 
-pub typed_unfound : (text : List ℕ) (n : ℕ) (t : Ty) → IsRun is_next_byte (take 128 text) n → named (folded (take n text)) ≡ Some t → NoneOf (Number t) (folded (drop (n + 1) text)) → NoneOf Typed (folded text)
+pub typed_unfound : (text : List ℕ) (n : ℕ) (t : Ty) → IsRun is_next_byte (take 128 text) n → named (in_lower_case (take n text)) ≡ Some t → NoneOf (Number t) (in_lower_case (drop (n + 1) text)) → NoneOf Typed (in_lower_case text)
 typed_unfound text n t run name none = λ m le h.
-    let xs = folded text in
+    let xs = in_lower_case text in
     let parts = parts_of xs n m (run_folded text n run) le h in
     let named_here : named (take n xs) ≡ Some t = ap named (sym (fold_take n text)) ∙ name in
     let rest : NoneOf (Number t) (drop (n + 1) xs) = subst (λ ys. NoneOf (Number t) ys) (fold_drop (n + 1) text) none in
     let far : n < m = parts.far in
     rest (m - (n + 1)) (omega (arith, length-drop (n + 1) xs)) (subst (λ u. Number u (take (m - (n + 1)) (drop (n + 1) xs))) (same_type (take n xs) parts.t t parts.name named_here) parts.number)
 
-pub typed_unnamed : (text : List ℕ) (n : ℕ) → IsRun is_next_byte (take 128 text) n → named (folded (take n text)) ≡ None → NoneOf Typed (folded text)
+pub typed_unnamed : (text : List ℕ) (n : ℕ) → IsRun is_next_byte (take 128 text) n → named (in_lower_case (take n text)) ≡ None → NoneOf Typed (in_lower_case text)
 typed_unnamed text n run name = λ m le h.
-    let parts = parts_of (folded text) n m (run_folded text n run) le h in
+    let parts = parts_of (in_lower_case text) n m (run_folded text n run) le h in
     let bad = sym (ap named (sym (fold_take n text)) ∙ name) ∙ parts.name in absurd (cc)
 
-pub typed_unmarked : (text : List ℕ) (n : ℕ) → IsRun is_next_byte (take 128 text) n → (n < length text → get_or text n 0 ≡ 35 → ⊥) → NoneOf Typed (folded text)
+pub typed_unmarked : (text : List ℕ) (n : ℕ) → IsRun is_next_byte (take 128 text) n → (n < length text → get_or text n 0 ≡ 35 → ⊥) → NoneOf Typed (in_lower_case text)
 typed_unmarked text n run other = λ m le h.
-    let parts = parts_of (folded text) n m (run_folded text n run) le h in
+    let parts = parts_of (in_lower_case text) n m (run_folded text n run) le h in
     let far : n < m = parts.far in
     let lt : n < length text = omega (arith, folded_length text) in
     other lt (mark_raw text n lt parts.mark)

@@ -1,7 +1,7 @@
 -- Whole numbers and truths as the forms that are scanned.
 use Rattle.std.proofs.Common.{◌≡◌, ℕ, ℤ, pos, neg_ℤ, false, inl, inr, List, ◌++◌, take, Option, refl, sym, subst}
 use Rattle.std.specs.Prelude.{codes}
-use Rattle.plcx_types.specs.Numeral.{IsNumeral, IsWhole, plain, plus, minus, binary, octal, hexadecimal}
+use Rattle.plcx_types.specs.Numeral.{IsNumeral, IsWholeNumber, plain, plus, minus, binary, octal, hexadecimal}
 use Rattle.std.proofs.lemmas.Bool.{false_from_ne_true}
 use Rattle.plcx_types.specs.declared.ty.Ty.{Ty}
 use Rattle.plcx_types.specs.declared.ty.Ty.TheVariants as ty
@@ -24,7 +24,7 @@ Plain = Either (After (codes "16#") (Numeral 16)) (Numeral 10)
 after_refl : (word rest : List ℕ) (base n : ℕ) → IsNumeral base rest n → After word (Numeral base) (word ++ rest)
 after_refl word rest base n is = (rest, refl, (n, is))
 
-way_of : (xs : List ℕ) (n : ℤ) → IsWhole xs n → Either Signed (Either Small Plain) xs
+way_of : (xs : List ℕ) (n : ℤ) → IsWholeNumber xs n → Either Signed (Either Small Plain) xs
 way_of xs n (plain {n = m} is) = inr (inr (inr (m, is)))
 way_of xs n (plus {text = rest} {n = m} is) = inl (inl (after_refl (codes "+") rest 10 m is))
 way_of xs n (minus {text = rest} {n = m} is) = inl (inr (after_refl (codes "-") rest 10 m is))

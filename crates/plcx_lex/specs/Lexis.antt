@@ -1,12 +1,13 @@
 -- How a text is cut into tokens and what parts them.
-use Rattle.std.specs.Prelude.{◌≡◌, ◌⊎◌, ◌+◌, ◌-◌, ◌<◌, ◌≤◌, ◌||◌, ℕ, suc, ℤ, Bool, true, false, nat_eq, List, [], ◌∷◌, ◌++◌, length, take, drop, slice_index, Option, Some, None, codes}
+use Rattle.std.specs.Prelude.{◌≡◌, ◌⊎◌, ◌+◌, ◌-◌, ◌<◌, ◌≤◌, ◌||◌, ℕ, ℤ, Bool, true, false, List, [], ◌∷◌, length, take, drop, map, slice_index, Option, Some, None, codes}
 use Rattle.std.specs.List.{list_all, list_any}
 use Rattle.std.specs.Str.{bytes_eq}
-use Rattle.plcx_types.specs.Name.{is_between, is_identifier, folded}
+use Rattle.plcx_types.specs.Name.{is_between, is_identifier, in_lower_case}
 use Rattle.plcx_types.specs.Reserved.{is_keyword}
-use Rattle.plcx_types.specs.Duration.{AreDigits}
+use Rattle.plcx_types.specs.Address.{is_one_of, IsAddress}
 use Rattle.plcx_types.specs.declared.ty.Ty.{Ty}
 use Rattle.plcx_lex.specs.Number.{IsLiteral}
+use Rattle.plcx_lex.specs.Terminal.{signs, kind_of}
 use Rattle.plcx_lex.specs.Token.{Token}
 use Rattle.plcx_lex.specs.declared.token.TextToken.{TextToken}
 use Rattle.plcx_lex.specs.declared.token.TokenKind.{TokenKind}
@@ -16,28 +17,15 @@ use Rattle.plcx_lex.specs.declared.token.TokenKind.TheVariants as kind
 
 -- the words that are numbers
 abbrev pub is_truth : List ℕ → Bool
-is_truth text = bytes_eq (folded text) (codes "true") || bytes_eq (folded text) (codes "false")
+is_truth text = bytes_eq (in_lower_case text) (codes "true") || bytes_eq (in_lower_case text) (codes "false")
 
+-- a decimal digit
 abbrev pub is_decimal : ℕ → Bool
 is_decimal b = is_between 48 57 b
 
--- 1 to so many numbers of 1 to 9 digits, with points between them
-pub data ArePlaces : ℕ → List ℕ → Type 0 where
-  last : {most : ℕ} {digits : List ℕ} → AreDigits 9 digits → ArePlaces (suc most) digits
-  more : {most : ℕ} {digits rest : List ℕ} → AreDigits 9 digits → ArePlaces most rest → ArePlaces (suc most) (digits ++ (codes "." ++ rest))
-
-abbrev pub is_one_of : List ℕ → ℕ → Bool
-is_one_of letters b = list_any (nat_eq b) letters
-
--- an address in lower case: where it lies, perhaps how wide it is, and its places
-pub data IsAddress : List ℕ → Type 0 where
-  plain : {area : ℕ} {places : List ℕ} → is_one_of (codes "iqm") area ≡ true → ArePlaces 8 places → IsAddress (codes "%" ++ area ∷ places)
-  sized : {area size : ℕ} {places : List ℕ} → is_one_of (codes "iqm") area ≡ true → is_one_of (codes "xbwdl") size ≡ true → ArePlaces 8 places
-      → IsAddress (codes "%" ++ area ∷ size ∷ places)
-
-abbrev pub signs : List (List ℕ)
-signs = codes ":=" ∷ codes ":" ∷ codes ";" ∷ codes "," ∷ codes "." ∷ codes "(" ∷ codes ")" ∷ codes "+" ∷ codes "-" ∷ codes "*" ∷ codes "/"
-    ∷ codes "=" ∷ codes "<>" ∷ codes "<" ∷ codes ">" ∷ codes "<=" ∷ codes ">=" ∷ []
+-- the texts of the signs
+abbrev pub sign_texts : List (List ℕ)
+sign_texts = map (λ e. e.0) signs
 
 -- a text that is one token of the kind
 abbrev pub IsToken : TokenKind → List ℕ → Type 0
@@ -45,11 +33,12 @@ IsToken kind.Keyword text = (is_keyword text ≡ true) × (is_truth text ≡ fal
 IsToken kind.Name text = (is_identifier text ≡ true) × (is_keyword text ≡ false)
 IsToken kind.Number text = (t : Ty) × (n : ℤ) × IsLiteral text t n
 IsToken kind.Digits text = (list_all is_decimal text ≡ true) × (0 < length text)
-IsToken kind.Address text = IsAddress (folded text)
-IsToken kind.Sign text = list_any (bytes_eq text) signs ≡ true
+IsToken kind.Address text = IsAddress text
+IsToken kind.Sign text = list_any (bytes_eq text) sign_texts ≡ true
 
 -- ---- the pieces of a text
 
+-- a space, a tab, a carriage return or a line feed
 abbrev pub is_blank : ℕ → Bool
 is_blank b = is_one_of (32 ∷ 9 ∷ 13 ∷ 10 ∷ []) b
 
@@ -75,9 +64,11 @@ pub record IsLine (bytes : List ℕ) (n : ℕ) : Type 0 where
   pub ends : n < length bytes → slice_index bytes n ≡ 10
   pub first : (m : ℕ) → 2 ≤ m → m < n → slice_index bytes m ≡ 10 → ⊥
 
+-- a comment of n bytes stands at the front
 abbrev pub IsComment : List ℕ → ℕ → Type 0
 IsComment bytes n = IsBracketed bytes n ⊎ IsLine bytes n
 
+-- one blank stands at the front
 abbrev pub IsBlank : List ℕ → ℕ → Type 0
 IsBlank bytes n = (n ≡ 1) × (0 < length bytes) × (is_blank (slice_index bytes 0) ≡ true)
 
@@ -87,6 +78,7 @@ pub record Longest (bytes : List ℕ) (k : TokenKind) (n : ℕ) : Type 0 where
   pub formed : IsToken k (take n bytes)
   pub longest : (m : ℕ) (other : TokenKind) → n < m → m ≤ length bytes → IsToken other (take m bytes) → ⊥
 
+-- no comment stands at the front
 abbrev pub NoComment : List ℕ → Type 0
 NoComment bytes = (n : ℕ) → IsComment bytes n → ⊥
 
@@ -99,10 +91,12 @@ IsPiece bytes (Some k) n = Longest bytes k n × NoComment bytes
 abbrev pub Piece : Type 0
 Piece = Option TokenKind × ℕ
 
+-- the pieces stand one behind the other from the front on
 abbrev pub Covers : List ℕ → List Piece → Type 0
 Covers bytes [] = Unit {0}
 Covers bytes (p ∷ ps) = IsPiece bytes p.0 p.1 × Covers (drop p.1 bytes) ps
 
+-- how many bytes the pieces have
 abbrev pub total : List Piece → ℕ
 total [] = 0
 total (p ∷ ps) = p.1 + total ps
@@ -118,21 +112,22 @@ abbrev pub token_at : ℕ → List ℕ → Option TokenKind → ℕ → List Tok
 token_at at bytes None n ts = ts
 token_at at bytes (Some k) n ts = record { kind = k; text = take n bytes; span = record { start = at; end = at + n } } ∷ ts
 
+-- the tokens among the pieces, of which the first stands at this offset
 abbrev pub tokens_from : ℕ → List ℕ → List Piece → List Token
 tokens_from at bytes [] = []
 tokens_from at bytes (p ∷ ps) = token_at at bytes p.0 p.1 (tokens_from (at + p.1) (drop p.1 bytes) ps)
 
 -- the bytes are made of these tokens and of what parts them
-abbrev pub AreTokens : List ℕ → List Token → Type 0
-AreTokens bytes ts = (ps : List Piece) × IsMade bytes ps × (ts ≡ tokens_from 0 bytes ps)
+abbrev pub AreTextTokens : List ℕ → List Token → Type 0
+AreTextTokens bytes ts = (ps : List Piece) × IsMade bytes ps × (ts ≡ tokens_from 0 bytes ps)
 
 -- a token of a source, with its text
 abbrev pub spelt : List ℕ → TextToken → Token
-spelt source t = record { kind = t.kind; text = take (t.span.end - t.span.start) (drop t.span.start source); span = t.span }
+spelt source t = record { kind = kind_of t.terminal; text = take (t.span.end - t.span.start) (drop t.span.start source); span = t.span }
 
 -- ---- the place
 
--- the end of the longest front that is made of pieces, where the whole is not
+-- the end of the longest prefix that is made of pieces, where the whole is not
 pub record IsLexPlace (bytes : List ℕ) (at : ℕ) : Type 0 where
   pub inside : at < length bytes
   pub pieces : List Piece

@@ -2,7 +2,7 @@
 use Rattle.std.specs.Prelude.{◌++◌, ℕ, ℤ, List, codes}
 use Rattle.plcx_types.specs.declared.ty.Ty.{Ty}
 use Rattle.plcx_types.specs.declared.ty.Ty.TheVariants as ty
-use Rattle.plcx_types.specs.Name.{folded}
+use Rattle.plcx_types.specs.Name.{in_lower_case}
 use Rattle.plcx_types.specs.Literal.{type_word, IsTruth, IsNumber}
 use Rattle.plcx_types.specs.Duration.{IsTime}
 
@@ -14,4 +14,4 @@ pub data IsTyped : List ℕ → Ty → ℤ → Type 0 where
 
 -- the same with letters in any case
 abbrev pub IsLiteral : List ℕ → Ty → ℤ → Type 0
-IsLiteral text t n = IsTyped (folded text) t n
+IsLiteral text t n = IsTyped (in_lower_case text) t n

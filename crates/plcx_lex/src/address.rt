@@ -1,31 +1,16 @@
 //! How long the address at the front of a text is.
-ghost use Rattle.std.specs.Prelude.{◌≡◌, codes};
-ghost use Rattle.std.specs.Char.{to_ascii_lowercase};
-ghost use Rattle.plcx_types.specs.Name.{folded};
-ghost use Rattle.plcx_lex.specs.Lexis.{is_one_of, ArePlaces, IsAddress};
+ghost use Rattle.plcx_types.specs.Name.{in_lower_case};
+ghost use Rattle.plcx_types.specs.Address.{ArePlaces, IsAddressForm};
 ghost use Rattle.plcx_lex.specs.Scan.{Finds};
 
-use crate::runs::{Class, front, run_len};
-
-fn is_area(byte: u8) -> bool
-    ensures { result ≡ is_one_of (codes "iqm") (to_ascii_lowercase byte) }
-{
-    let letter = byte.to_ascii_lowercase();
-    letter == b'i' || letter == b'q' || letter == b'm'
-}
-
-fn is_size(byte: u8) -> bool
-    ensures { result ≡ is_one_of (codes "xbwdl") (to_ascii_lowercase byte) }
-{
-    let letter = byte.to_ascii_lowercase();
-    letter == b'x' || letter == b'b' || letter == b'w' || letter == b'd' || letter == b'l'
-}
+use crate::runs::{Class, prefix, run_len};
+use plcx_types::{is_area, is_size};
 
 /// How long the longest list of places is.
 fn places_len(most: usize, text: &[u8]) -> Option<usize>
-    ensures { Finds (ArePlaces most) (folded text.now) result }
+    ensures { Finds (ArePlaces most) (in_lower_case text.now) result }
 {
-    let n = run_len(Class::Decimal, front(9, text));
+    let n = run_len(Class::Decimal, prefix(9, text));
     if most == 0 || n == 0 {
         return None;
     }
@@ -40,7 +25,7 @@ fn places_len(most: usize, text: &[u8]) -> Option<usize>
 
 /// How long the longest address is.
 pub(crate) fn address_len(text: &[u8]) -> Option<usize>
-    ensures { Finds IsAddress (folded text.now) result }
+    ensures { Finds IsAddressForm (in_lower_case text.now) result }
 {
     if text.len() < 3 || text[0] != b'%' || !is_area(text[1]) {
         return None;

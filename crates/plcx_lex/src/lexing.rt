@@ -1,17 +1,14 @@
 //! The longest token at the front of a text.
 ghost use Rattle.std.specs.Prelude.{◌≡◌, ◌<◌, length, true, false, slice_index, MatchOption};
 ghost use Rattle.plcx_types.specs.Name.{is_first_byte, is_identifier};
-ghost use Rattle.plcx_lex.specs.Lexis.{is_decimal, IsToken, Longest};
-ghost use Rattle.plcx_lex.specs.Scan.{NoneOf, AnyToken};
-ghost use Rattle.plcx_lex.specs.declared.token.TokenKind.TheVariants as kind;
+ghost use Rattle.plcx_lex.specs.Lexis.{is_decimal};
+ghost use Rattle.plcx_lex.specs.Scan.{NoneOf, AnyToken, LongestTold};
 
 use crate::address::address_len;
-use crate::number::truth;
-use crate::runs::{Class, front, run_len};
-use crate::sign::sign_len;
-use crate::token::TokenKind;
+use crate::runs::{Class, prefix, run_len};
+use crate::sign::sign;
+use crate::terminal::{Terminal, word_terminal};
 use crate::whole::typed_len;
-use plcx_types::is_keyword;
 
 fn is_first(byte: u8) -> bool
     ensures { result ≡ is_first_byte byte }
@@ -19,71 +16,51 @@ fn is_first(byte: u8) -> bool
     byte.is_ascii_alphabetic() || byte == b'_'
 }
 
-#[tactic(auto, using(crate::proofs::TokenForms::kind_rules))]
-fn word_kind(word: &[u8]) -> TokenKind
-    requires { is_identifier word.now ≡ true }
-    ensures { IsToken result word.now }
-{
-    match truth(word) {
-        Some(_) => TokenKind::Number,
-        None => {
-            if is_keyword(word) {
-                TokenKind::Keyword
-            } else {
-                TokenKind::Name
-            }
-        }
-    }
-}
-
-fn word_token(text: &[u8]) -> (TokenKind, usize)
+fn word_token(text: &[u8]) -> (Terminal, usize)
     requires some { 0 < length text.now }
     requires first { is_first_byte (slice_index text.now 0) ≡ true }
-    ensures { Longest text.now result.0 result.1 }
+    ensures { LongestTold text.now result.0 result.1 }
 {
-    let n = run_len(Class::Part, front(128, text));
-    match typed_len(text) {
-        Some(long) => (TokenKind::Number, long),
-        None => (word_kind(&text[..n]), n),
+    let n = run_len(Class::Part, prefix(128, text));
+    match typed_len(n, text) {
+        Some(long) => (Terminal::Number, long),
+        None => (word_terminal(&text[..n]), n),
     }
 }
 
-fn digits_token(text: &[u8]) -> (TokenKind, usize)
+fn digits_token(text: &[u8]) -> (Terminal, usize)
     requires some { 0 < length text.now }
     requires first { is_decimal (slice_index text.now 0) ≡ true }
-    ensures { Longest text.now result.0 result.1 }
+    ensures { LongestTold text.now result.0 result.1 }
 {
-    (TokenKind::Digits, run_len(Class::Decimal, text))
+    (Terminal::Digits, run_len(Class::Decimal, text))
 }
 
-fn address_token(text: &[u8]) -> Option<(TokenKind, usize)>
+fn address_token(text: &[u8]) -> Option<(Terminal, usize)>
     requires some { 0 < length text.now }
     requires first { slice_index text.now 0 ≡ 37 }
-    ensures { MatchOption result (NoneOf AnyToken text.now) (λ t. Longest text.now t.0 t.1) }
+    ensures { MatchOption result (NoneOf AnyToken text.now) (λ t. LongestTold text.now t.0 t.1) }
 {
     match address_len(text) {
         None => None,
-        Some(n) => Some((TokenKind::Address, n)),
+        Some(n) => Some((Terminal::Address, n)),
     }
 }
 
-fn sign_token(text: &[u8]) -> Option<(TokenKind, usize)>
+fn sign_token(text: &[u8]) -> Option<(Terminal, usize)>
     requires some { 0 < length text.now }
     requires letter { is_first_byte (slice_index text.now 0) ≡ false }
     requires digit { is_decimal (slice_index text.now 0) ≡ false }
     requires percent { slice_index text.now 0 ≡ 37 → ⊥ }
-    ensures { MatchOption result (NoneOf AnyToken text.now) (λ t. Longest text.now t.0 t.1) }
+    ensures { MatchOption result (NoneOf AnyToken text.now) (λ t. LongestTold text.now t.0 t.1) }
 {
-    match sign_len(text) {
-        None => None,
-        Some(n) => Some((TokenKind::Sign, n)),
-    }
+    sign(text)
 }
 
 /// The longest token at the front, and its length.
-pub(crate) fn token(text: &[u8]) -> Option<(TokenKind, usize)>
+pub(crate) fn token(text: &[u8]) -> Option<(Terminal, usize)>
     requires { 0 < length text.now }
-    ensures { MatchOption result (NoneOf AnyToken text.now) (λ t. Longest text.now t.0 t.1) }
+    ensures { MatchOption result (NoneOf AnyToken text.now) (λ t. LongestTold text.now t.0 t.1) }
 {
     let first = text[0];
     if is_first(first) {

@@ -10,6 +10,7 @@ mod number;
 mod pieces;
 mod runs;
 mod sign;
+mod terminal;
 mod token;
 mod whole;
 
@@ -17,7 +18,5 @@ pub use cutting::tokens;
 pub use error::TextError;
 pub use law::one_list;
 pub use number::number_of;
+pub use terminal::Terminal;
 pub use token::{TextToken, TokenKind};
-
-#[cfg(test)]
-mod tests;

@@ -1,100 +1,27 @@
 //! Numbers with the name of their type before them.
 ghost use Rattle.std.specs.Prelude.{◌≡◌, ℤ, IfSome, IfNone, Some, None};
-ghost use Rattle.std.specs.Str.{bytes_eq};
 ghost use Rattle.plcx_types.specs.declared.ty.Ty.{Ty};
-ghost use Rattle.plcx_types.specs.Name.{folded};
-ghost use Rattle.plcx_types.specs.Literal.{type_word};
-ghost use Rattle.plcx_types.specs.ReadLiteral.{truth};
+ghost use Rattle.plcx_types.specs.Name.{in_lower_case};
 ghost use Rattle.plcx_lex.specs.Number.{IsLiteral};
-ghost use Rattle.plcx_lex.specs.ReadNumber.{first_named, named, behind_word, literal_of};
+ghost use Rattle.plcx_lex.specs.ReadNumber.{named, behind_word, literal_of};
 
 use crate::runs::{Class, run_len};
-use plcx_types::{Ty, read_number};
-
-const TYPES: [Ty; 14] = [
-    Ty::Bool,
-    Ty::Byte,
-    Ty::Word,
-    Ty::Dword,
-    Ty::Lword,
-    Ty::Sint,
-    Ty::Int,
-    Ty::Dint,
-    Ty::Lint,
-    Ty::Usint,
-    Ty::Uint,
-    Ty::Udint,
-    Ty::Ulint,
-    Ty::Time,
-];
-
-fn type_word(ty: Ty) -> &'static [u8]
-    ensures { result.now ≡ type_word ty }
-{
-    match ty {
-        Ty::Bool => b"bool",
-        Ty::Byte => b"byte",
-        Ty::Word => b"word",
-        Ty::Dword => b"dword",
-        Ty::Lword => b"lword",
-        Ty::Sint => b"sint",
-        Ty::Int => b"int",
-        Ty::Dint => b"dint",
-        Ty::Lint => b"lint",
-        Ty::Usint => b"usint",
-        Ty::Uint => b"uint",
-        Ty::Udint => b"udint",
-        Ty::Ulint => b"ulint",
-        Ty::Time => b"time",
-    }
-}
-
-#[tactic(auto, using(crate::proofs::Numbers::type_word_folded))]
-fn reads(ty: Ty, word: &[u8]) -> bool
-    ensures { result ≡ bytes_eq (folded word.now) (type_word ty) }
-{
-    word.eq_ignore_ascii_case(type_word(ty))
-}
-
-#[tactic(auto, unfolding(crate::specs::ReadNumber::first_named))]
-fn first_named(types: &[Ty], word: &[u8]) -> Option<Ty>
-    ensures { result ≡ first_named types.now (folded word.now) }
-{
-    for ty in types {
-        if reads(*ty, word) {
-            return Some(*ty);
-        }
-    }
-    None
-}
+use plcx_types::{Ty, read_number, truth};
 
 /// The type that a word before `#` names.
 pub(crate) fn named(word: &[u8]) -> Option<Ty>
-    ensures { result ≡ named (folded word.now) }
+    ensures { result ≡ named (in_lower_case word.now) }
 {
     if word.eq_ignore_ascii_case(b"t") {
         Some(Ty::Time)
     } else {
-        first_named(&TYPES, word)
-    }
-}
-
-/// The number of a word that is one: TRUE or FALSE.
-pub(crate) fn truth(word: &[u8]) -> Option<i128>
-    ensures { result ≡ truth (folded word.now) }
-{
-    if word.eq_ignore_ascii_case(b"true") {
-        Some(1)
-    } else if word.eq_ignore_ascii_case(b"false") {
-        Some(0)
-    } else {
-        None
+        Ty::named(word)
     }
 }
 
 #[tactic(auto, unfolding(crate::specs::ReadNumber::behind_word))]
 fn behind_word(word: &[u8], rest: &[u8]) -> Option<(Ty, i128)>
-    ensures { result ≡ behind_word (folded word.now) (folded rest.now) }
+    ensures { result ≡ behind_word (in_lower_case word.now) (in_lower_case rest.now) }
 {
     match rest {
         [] => {

@@ -1,10 +1,10 @@
 //! What stands at the front of a text: a token, or what parts tokens.
 ghost use Rattle.std.specs.Prelude.{◌≡◌, ◌≤◌, ◌<◌, ℕ, length, slice_index, MatchOption};
-ghost use Rattle.plcx_lex.specs.Lexis.{is_blank, ClosesAt, IsBracketed, IsLine, IsPiece};
-ghost use Rattle.plcx_lex.specs.Scan.{NoPiece};
+ghost use Rattle.plcx_lex.specs.Lexis.{is_blank, ClosesAt, IsBracketed, IsLine};
+ghost use Rattle.plcx_lex.specs.Scan.{NoPiece, PieceTold};
 
 use crate::lexing::token;
-use crate::token::TokenKind;
+use crate::terminal::Terminal;
 
 fn is_blank(byte: u8) -> bool
     ensures { result ≡ is_blank byte }
@@ -58,10 +58,10 @@ fn line_len(bytes: &[u8]) -> Option<usize>
 }
 
 /// What stands at the front, and its length; no `*)` stands from the limit on.
-pub(crate) fn piece(bytes: &[u8], limit: usize) -> Option<(Option<TokenKind>, usize)>
+pub(crate) fn piece(bytes: &[u8], limit: usize) -> Option<(Option<Terminal>, usize)>
     requires some { 0 < length bytes.now }
     requires limit { (m : ℕ) → limit ≤ m → ClosesAt bytes.now m → ⊥ }
-    ensures { MatchOption result (NoPiece bytes.now) (λ p. IsPiece bytes.now p.0 p.1) }
+    ensures { MatchOption result (NoPiece bytes.now) (λ p. PieceTold bytes.now p.0 p.1) }
 {
     if is_blank(bytes[0]) {
         return Some((None, 1));
@@ -74,6 +74,6 @@ pub(crate) fn piece(bytes: &[u8], limit: usize) -> Option<(Option<TokenKind>, us
     }
     match token(bytes) {
         None => None,
-        Some((kind, n)) => Some((Some(kind), n)),
+        Some((terminal, n)) => Some((Some(terminal), n)),
     }
 }

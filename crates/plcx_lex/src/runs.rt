@@ -32,8 +32,8 @@ pub(crate) fn run_len(class: Class, text: &[u8]) -> usize
     text.len()
 }
 
-/// At most so many bytes of the front.
-pub(crate) fn front(most: usize, text: &[u8]) -> &[u8]
+/// The prefix of at most so many bytes.
+pub(crate) fn prefix(most: usize, text: &[u8]) -> &[u8]
     ensures { result.now ≡ take most text.now }
 {
     if most < text.len() {

@@ -1,3 +1,5 @@
+//! Tokens and their kinds.
+use crate::terminal::Terminal;
 use plcx_types::Span;
 
 /// What a token is. TRUE and FALSE are numbers.
@@ -11,9 +13,9 @@ pub enum TokenKind {
     Sign,
 }
 
-/// A token where it stands; its text is the slice of the source at its span.
+/// A token where it stands, with what it is in the grammar; its text is the slice of the source at its span.
 #[derive(Clone, Copy, Debug, PartialEq, Eq)]
 pub struct TextToken {
-    pub kind: TokenKind,
+    pub terminal: Terminal,
     pub span: Span,
 }

@@ -1,43 +1,21 @@
 //! How long the numbers at the front of a text are.
-ghost use Rattle.std.specs.Prelude.{◌≡◌, ◌<◌, ◌&&◌, ℤ, true, false, nat_eq, codes, IfSome, IfNone, MatchOption};
+ghost use Rattle.std.specs.Prelude.{◌≡◌, ◌<◌, ◌&&◌, ℤ, true, false, nat_eq, take, codes, IfSome, IfNone, MatchOption};
 ghost use Rattle.plcx_types.specs.Literal.{IsNumber};
-ghost use Rattle.plcx_lex.specs.Lexis.{is_decimal, is_one_of};
+ghost use Rattle.plcx_types.specs.Address.{is_one_of};
+ghost use Rattle.plcx_lex.specs.Lexis.{is_decimal};
 ghost use Rattle.std.specs.Char.{to_ascii_lowercase};
 ghost use Rattle.plcx_types.specs.declared.ty.Ty.TheVariants as ty;
-ghost use Rattle.plcx_types.specs.Name.{folded};
-ghost use Rattle.plcx_types.specs.Numeral.{is_digit, digit_value};
-ghost use Rattle.plcx_types.specs.Reading.{behind, with_digit, GivesRest};
-ghost use Rattle.plcx_lex.specs.Scan.{longer, is_end, Finds, After, Numeral, Whole, Truth, Number, Typed};
+ghost use Rattle.plcx_types.specs.Name.{in_lower_case, is_next_byte};
+ghost use Rattle.plcx_lex.specs.Scan.{longer, is_end, IsRun, Finds, After, Numeral, Whole, Truth, Number, Typed};
 
 use crate::number::named;
-use crate::runs::{Class, front, run_len};
-use plcx_types::{Ty, read_number};
-
-const GREATEST: u128 = 170_141_183_460_469_231_731_687_303_715_884_105_727;
-
-fn digit(base: u128, byte: u8) -> Option<u128>
-    ensures { MatchOption result (is_digit base (to_ascii_lowercase byte) ≡ false) (λ digit. (is_digit base (to_ascii_lowercase byte) ≡ true) × (digit ≡ digit_value (to_ascii_lowercase byte))) }
-{
-    let digit = match byte.to_ascii_lowercase() {
-        decimal @ b'0'..=b'9' => u128::from(decimal - b'0'),
-        letter @ b'a'..=b'f' => u128::from(letter - b'a') + 10,
-        _ => return None,
-    };
-    if digit < base { Some(digit) } else { None }
-}
-
-#[tactic(auto, unfolding(plcx_types::specs::Reading::with_digit))]
-fn with_digit(base: u128, n: u128, digit: u128) -> Option<u128>
-    ensures { result ≡ with_digit base n digit }
-{
-    let n = n.checked_mul(base)?.checked_add(digit)?;
-    if n <= GREATEST { Some(n) } else { None }
-}
+use crate::runs::{Class, prefix, run_len};
+use plcx_types::{Ty, behind, digit, read_number, with_digit};
 
 /// How long the longest numeral of the base is.
 fn numeral_len(base: u128, text: &[u8]) -> Option<usize>
     requires { 0 < base }
-    ensures { Finds (Numeral base) (folded text.now) result }
+    ensures { Finds (Numeral base) (in_lower_case text.now) result }
 {
     let mut n = 0;
     let mut seen = false;
@@ -59,20 +37,6 @@ fn numeral_len(base: u128, text: &[u8]) -> Option<usize>
     best
 }
 
-fn behind<'t>(word: &[u8], text: &'t [u8]) -> Option<&'t [u8]>
-    ensures { GivesRest (λ rest. folded rest.now) result (behind (folded word.now) (folded text.now)) }
-{
-    if text.len() < word.len() {
-        return None;
-    }
-    let (front, rest) = text.split_at(word.len());
-    if front.eq_ignore_ascii_case(word) {
-        Some(rest)
-    } else {
-        None
-    }
-}
-
 fn longer(one: Option<usize>, other: Option<usize>) -> Option<usize>
     ensures { result ≡ longer one other }
 {
@@ -86,7 +50,7 @@ fn longer(one: Option<usize>, other: Option<usize>) -> Option<usize>
 /// How long the longest numeral of the base behind the word is, with the word.
 fn based_len(word: &[u8], base: u128, text: &[u8]) -> Option<usize>
     requires { 0 < base }
-    ensures { Finds (After (folded word.now) (Numeral base)) (folded text.now) result }
+    ensures { Finds (After (in_lower_case word.now) (Numeral base)) (in_lower_case text.now) result }
 {
     match behind(word, text) {
         None => None,
@@ -99,7 +63,7 @@ fn based_len(word: &[u8], base: u128, text: &[u8]) -> Option<usize>
 
 /// How long the longest whole number is.
 fn whole_len(text: &[u8]) -> Option<usize>
-    ensures { Finds Whole (folded text.now) result }
+    ensures { Finds Whole (in_lower_case text.now) result }
 {
     let signed = longer(based_len(b"+", 10, text), based_len(b"-", 10, text));
     let small = longer(based_len(b"2#", 2, text), based_len(b"8#", 8, text));
@@ -109,7 +73,7 @@ fn whole_len(text: &[u8]) -> Option<usize>
 
 /// The length of the word, where it stands at the front.
 fn word_len(word: &[u8], text: &[u8]) -> Option<usize>
-    ensures { Finds (λ front. front ≡ folded word.now) (folded text.now) result }
+    ensures { Finds (λ front. front ≡ in_lower_case word.now) (in_lower_case text.now) result }
 {
     match behind(word, text) {
         None => None,
@@ -118,7 +82,7 @@ fn word_len(word: &[u8], text: &[u8]) -> Option<usize>
 }
 
 fn truth_len(text: &[u8]) -> Option<usize>
-    ensures { Finds Truth (folded text.now) result }
+    ensures { Finds Truth (in_lower_case text.now) result }
 {
     longer(word_len(b"true", text), word_len(b"false", text))
 }
@@ -152,8 +116,8 @@ fn is_end(byte: u8, next: u8) -> bool
 #[tactic(auto, using(crate::proofs::TimeScan::time_rules))]
 /// The milliseconds of a length of time; what does not end as one is not read.
 fn time_of(text: &[u8]) -> Option<i128>
-    ensures some { IfSome result (λ n. IsNumber ty.Time (folded text.now) n) }
-    ensures none { IfNone result ((n : ℤ) → IsNumber ty.Time (folded text.now) n → ⊥) }
+    ensures some { IfSome result (λ n. IsNumber ty.Time (in_lower_case text.now) n) }
+    ensures none { IfNone result ((n : ℤ) → IsNumber ty.Time (in_lower_case text.now) n → ⊥) }
 {
     let size = text.len();
     if size < 2 {
@@ -166,9 +130,9 @@ fn time_of(text: &[u8]) -> Option<i128>
 }
 
 fn time_len(text: &[u8]) -> Option<usize>
-    ensures { Finds (Number ty.Time) (folded text.now) result }
+    ensures { Finds (Number ty.Time) (in_lower_case text.now) result }
 {
-    let mut n = run_len(Class::Time, front(128, text));
+    let mut n = run_len(Class::Time, prefix(128, text));
     while 0 < n {
         match time_of(&text[..n]) {
             Some(_) => return Some(n),
@@ -180,7 +144,7 @@ fn time_len(text: &[u8]) -> Option<usize>
 
 /// How long the longest number is that can stand behind the type's name.
 fn number_len(ty: Ty, text: &[u8]) -> Option<usize>
-    ensures { Finds (Number ty) (folded text.now) result }
+    ensures { Finds (Number ty) (in_lower_case text.now) result }
 {
     match ty {
         Ty::Time => time_len(text),
@@ -189,11 +153,11 @@ fn number_len(ty: Ty, text: &[u8]) -> Option<usize>
     }
 }
 
-/// How long the longest number with its type's name is.
-pub(crate) fn typed_len(text: &[u8]) -> Option<usize>
-    ensures { Finds Typed (folded text.now) result }
+/// How long the longest number with its type's name is. The word at the front has n bytes.
+pub(crate) fn typed_len(n: usize, text: &[u8]) -> Option<usize>
+    requires { IsRun is_next_byte (take 128 text.now) n }
+    ensures { Finds Typed (in_lower_case text.now) result }
 {
-    let n = run_len(Class::Part, front(128, text));
     if n == text.len() || text[n] != b'#' {
         return None;
     }

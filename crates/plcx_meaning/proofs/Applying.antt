@@ -7,7 +7,7 @@ use Rattle.std.specs.declared.result.Result.TheVariants.{Ok, Err}
 use Rattle.plcx_types.specs.declared.fault.Fault.{Fault}
 use Rattle.plcx_types.specs.declared.ty.Ty.{Ty}
 use Rattle.plcx_types.specs.declared.ty.Ty.TheVariants as ty
-use Rattle.plcx_types.specs.Name.{folded}
+use Rattle.plcx_types.specs.Name.{in_lower_case}
 use Rattle.plcx_types.specs.Value.{Value}
 use Rattle.plcx_funcs.specs.declared.func.Func.{Func}
 use Rattle.plcx_funcs.specs.Applied.{value, applied}
@@ -15,8 +15,8 @@ use Rattle.plcx_meaning.specs.Base.{is_true, Each, Faulted, Ended, then_do}
 use Rattle.plcx_meaning.specs.Tree.{Expression, Assign, If, statements}
 use Rattle.plcx_meaning.specs.Functions.{Answer, Given, Faulty, Missing, out_type, answer}
 use Rattle.plcx_meaning.specs.Diagram.{Enable, has_eno, eno_negated, eno_ports, Link, Port, port}
-use Rattle.plcx_meaning.specs.Evaluate.{Diagram, Wires, fix, fix_eno, turn, enable_value, link_value, with_result, function_result}
-use Rattle.plcx_meaning.specs.Execute.{Temporary, Here, place_of, Run, Frame, hold, with_value, value_of, assign, Invoked, run_statement, run_statements, run_list}
+use Rattle.plcx_meaning.specs.Evaluate.{DiagramState, Wires, fix, fix_eno, turn, enable_value, link_value, with_result, function_result}
+use Rattle.plcx_meaning.specs.Execute.{Temporary, TextSetting, referent_of, TextState, Frame, hold, with_value, value_of, assign, TextCalls, statement_runs, statements_run, list_runs}
 use Rattle.plcx_meaning.specs.Templates.{wire_name, wire, number, link_text, function_text, eno_text, enabled, out_default, turned_if}
 use Rattle.plcx_meaning.specs.Same.{Agree}
 use Rattle.plcx_meaning.specs.Fits.{is_fresh}
@@ -33,7 +33,7 @@ out = codes "OUT"
 
 -- of two assignments to one temporary the second stays
 pub hold_twice : (f : Frame) (x : List ℕ) (n m : ℤ) → hold (hold f x n) x m ≡ hold f x m
-hold_twice f x n m = fun_ext (λ key. by (bytes_eq key (folded x)) key)
+hold_twice f x n m = fun_ext (λ key. by (bytes_eq key (in_lower_case x)) key)
   where
     by : (b : Bool) (key : List ℕ) → (if b then m else (if b then n else f key)) ≡ (if b then m else f key)
     by true key = refl
@@ -47,54 +47,54 @@ pub tagged_types : (values : Link → ℤ) (links : List Link) → types (tagged
 tagged_types values [] = refl
 tagged_types values (l ∷ links) = ap (λ ts. l.ty ∷ ts) (tagged_types values links)
 
-module _ (c : Here) (call : Invoked) where
+module _ (c : TextSetting) (call : TextCalls) where
   -- a wire gets what a function gives
-  result_alike : (r : Result Value Fault) (id : ℕ) (o : Port) (done : List (ℕ × Port)) (d : Diagram) (ws : Wires) (g : Run) (f h : Frame)
-      → place_of c (wire_name id o.pin) ≡ Temporary o.ty → Agree d g → ((n : ℤ) → SameWires ((id, o) ∷ done) (fix ws id o.pin n) (hold f (wire_name id o.pin) n)) → ((n : ℤ) → hold h (wire_name id o.pin) n ≡ hold f (wire_name id o.pin) n)
-      → Alike (SameWires ((id, o) ∷ done)) (with_result r d (λ n. Ended d (fix ws id o.pin n))) (with_value (answer o.ty r) g (λ v. assign (place_of c (wire_name id o.pin)) (wire_name id o.pin) c.site v g h))
+  result_alike : (r : Result Value Fault) (id : ℕ) (o : Port) (done : List (ℕ × Port)) (d : DiagramState) (ws : Wires) (g : TextState) (f h : Frame)
+      → referent_of c (wire_name id o.pin) ≡ Temporary o.ty → Agree d g → ((n : ℤ) → SameWires ((id, o) ∷ done) (fix ws id o.pin n) (hold f (wire_name id o.pin) n)) → ((n : ℤ) → hold h (wire_name id o.pin) n ≡ hold f (wire_name id o.pin) n)
+      → Alike (SameWires ((id, o) ∷ done)) (with_result r d (λ n. Ended d (fix ws id o.pin n))) (with_value (answer o.ty r) g (λ v. assign (referent_of c (wire_name id o.pin)) (wire_name id o.pin) c.site v g h))
   result_alike (Err fault) id o done d ws g f h place a same holds = both_stop (Faulted fault) a
   result_alike (Ok v) id o done d ws g f h place a same holds =
       alike_as _ (Ended g (hold f (wire_name id o.pin) v.n)) (rw (place, same_type o.ty) (ap (λ k. Ended g k) (holds v.n))) (both_end a (same v.n))
 
   -- where EN is connected
-  under_eno : (b : Bool) (r : Result Value Fault) (t : Ty) (id : ℕ) (o : Port) (e : Expression) (done : List (ℕ × Port)) (d : Diagram) (ws : Wires) (g : Run) (f : Frame)
-      → place_of c (wire_name id o.pin) ≡ Temporary o.ty → Agree d g → ((n : ℤ) → SameWires ((id, o) ∷ done) (fix ws id o.pin n) (hold f (wire_name id o.pin) n))
+  under_eno : (b : Bool) (r : Result Value Fault) (t : Ty) (id : ℕ) (o : Port) (e : Expression) (done : List (ℕ × Port)) (d : DiagramState) (ws : Wires) (g : TextState) (f : Frame)
+      → referent_of c (wire_name id o.pin) ≡ Temporary o.ty → Agree d g → ((n : ℤ) → SameWires ((id, o) ∷ done) (fix ws id o.pin n) (hold f (wire_name id o.pin) n))
       → value_of e c g.store (hold f (wire_name id o.pin) (pos 0)) ≡ answer o.ty r
       → Alike (SameWires ((id, o) ∷ done)) (with_result (if b then r else Ok (value t (pos 0))) d (λ n. Ended d (fix ws id o.pin n)))
-      (if b then run_statements (statements (Assign (wire_name id o.pin) e ∷ [])) c call g (hold f (wire_name id o.pin) (pos 0)) else Ended g (hold f (wire_name id o.pin) (pos 0)))
+      (if b then statements_run (statements (Assign (wire_name id o.pin) e ∷ [])) c call g (hold f (wire_name id o.pin) (pos 0)) else Ended g (hold f (wire_name id o.pin) (pos 0)))
   under_eno true r t id o e done d ws g f place a same known =
       let f2 = hold f (wire_name id o.pin) (pos 0) in
-      alike_as _ _ (then_ended _ ∙ ap (λ v. with_value v g (λ v'. assign (place_of c (wire_name id o.pin)) (wire_name id o.pin) c.site v' g f2)) known)
+      alike_as _ _ (then_ended _ ∙ ap (λ v. with_value v g (λ v'. assign (referent_of c (wire_name id o.pin)) (wire_name id o.pin) c.site v' g f2)) known)
       (result_alike r id o done d ws g f f2 place a same (λ n. hold_twice f (wire_name id o.pin) (pos 0) n))
   under_eno false r t id o e done d ws g f place a same known = both_end a (same (pos 0))
 
 -- what follows a result
-result_then : (r : Result Value Fault) (d : Diagram) (go : ℤ → Wires) (h : Wires → Wires) → with_result r d (λ n. Ended d (h (go n))) ≡ then_do (with_result r d (λ n. Ended d (go n))) (λ d' ws. Ended d' (h ws))
+result_then : (r : Result Value Fault) (d : DiagramState) (go : ℤ → Wires) (h : Wires → Wires) → with_result r d (λ n. Ended d (h (go n))) ≡ then_do (with_result r d (λ n. Ended d (go n))) (λ d' ws. Ended d' (h ws))
 result_then (Ok v) d go h = refl
 result_then (Err fault) d go h = refl
 
-module _ (c : Here) (call : Invoked) where
+module _ (c : TextSetting) (call : TextCalls) where
   -- OUT, with its default where EN may be FALSE
-  out_by : (en : Option Link) (listed : Option Bool) (r : Result Value Fault) (t : Ty) (v : ℤ) (id : ℕ) (o : Port) (e : Expression) (done : List (ℕ × Port)) (d : Diagram) (ws : Wires) (g : Run) (f : Frame)
-      → (en ≡ None → is_true v ≡ true) → place_of c (wire_name id o.pin) ≡ Temporary o.ty → Agree d g → ((n : ℤ) → SameWires ((id, o) ∷ done) (fix ws id o.pin n) (hold f (wire_name id o.pin) n))
+  out_by : (en : Option Link) (listed : Option Bool) (r : Result Value Fault) (t : Ty) (v : ℤ) (id : ℕ) (o : Port) (e : Expression) (done : List (ℕ × Port)) (d : DiagramState) (ws : Wires) (g : TextState) (f : Frame)
+      → (en ≡ None → is_true v ≡ true) → referent_of c (wire_name id o.pin) ≡ Temporary o.ty → Agree d g → ((n : ℤ) → SameWires ((id, o) ∷ done) (fix ws id o.pin n) (hold f (wire_name id o.pin) n))
       → value_of e c g.store f ≡ answer o.ty r → value_of e c g.store (hold f (wire_name id o.pin) (pos 0)) ≡ answer o.ty r
       → ((link : Link) → en ≡ Some link → value_of (wire id eno) c g.store (hold f (wire_name id o.pin) (pos 0)) ≡ Given (value ty.Bool v))
       → o.pin ≡ out
       → Alike (SameWires ((id, o) ∷ done)) (with_result (if is_true v then r else Ok (value t (pos 0))) d (λ n. Ended d (fix ws id o.pin n)))
-      (then_do (run_list (out_default id (record { en = en; eno = listed }) o.ty) c call g f) (run_statement (enabled id (record { en = en; eno = listed }) (Assign (wire_name id o.pin) e)) c call))
+      (then_do (list_runs (out_default id (record { en = en; eno = listed }) o.ty) c call g f) (statement_runs (enabled id (record { en = en; eno = listed }) (Assign (wire_name id o.pin) e)) c call))
   out_by (Some link) listed r t v id o e done d ws g f off place a same first second known pin =
       let w = wire_name id o.pin in
-      let default : run_list (out_default id (record { en = Some link; eno = listed }) o.ty) c call g f ≡ Ended g (hold f w (pos 0)) =
-      ap (λ p. run_list (Assign (wire_name id p) (number o.ty (pos 0)) ∷ []) c call g f) (sym pin) ∙ (then_ended _ ∙ assign_temporary c call g f w (number o.ty (pos 0)) o.ty (pos 0) place refl) in
-      let test : run_statement (If (wire id eno) (statements (Assign w e ∷ []))) c call g (hold f w (pos 0)) ≡ (if is_true v then run_statements (statements (Assign w e ∷ [])) c call g (hold f w (pos 0)) else Ended g (hold f w (pos 0))) = rw (known link refl) in
-      alike_as _ _ (ap (λ q. then_do q (run_statement (If (wire id eno) (statements (Assign w e ∷ []))) c call)) default ∙ test)
+      let default : list_runs (out_default id (record { en = Some link; eno = listed }) o.ty) c call g f ≡ Ended g (hold f w (pos 0)) =
+      ap (λ p. list_runs (Assign (wire_name id p) (number o.ty (pos 0)) ∷ []) c call g f) (sym pin) ∙ (then_ended _ ∙ assign_temporary c call g f w (number o.ty (pos 0)) o.ty (pos 0) place refl) in
+      let test : statement_runs (If (wire id eno) (statements (Assign w e ∷ []))) c call g (hold f w (pos 0)) ≡ (if is_true v then statements_run (statements (Assign w e ∷ [])) c call g (hold f w (pos 0)) else Ended g (hold f w (pos 0))) = rw (known link refl) in
+      alike_as _ _ (ap (λ q. then_do q (statement_runs (If (wire id eno) (statements (Assign w e ∷ []))) c call)) default ∙ test)
       (under_eno c call (is_true v) r t id o e done d ws g f place a same second)
   out_by None listed r t v id o e done d ws g f off place a same first second known pin =
       alike_from _ _ (ap (λ b. with_result (if b then r else Ok (value t (pos 0))) d (λ n. Ended d (fix ws id o.pin n))) (off refl))
-      (alike_as _ _ (ap (λ q. with_value q g (λ v'. assign (place_of c (wire_name id o.pin)) (wire_name id o.pin) c.site v' g f)) first)
+      (alike_as _ _ (ap (λ q. with_value q g (λ v'. assign (referent_of c (wire_name id o.pin)) (wire_name id o.pin) c.site v' g f)) first)
       (result_alike c call r id o done d ws g f f place a same (λ n. refl)))
 
-  module _ (site : IsDeclared c.site) (done : List (ℕ × Port)) (d : Diagram) (ws : Wires) (g : Run) (a : Agree d g) where
+  module _ (site : IsDeclared c.site) (done : List (ℕ × Port)) (d : DiagramState) (ws : Wires) (g : TextState) (a : Agree d g) where
     links_known : (f : Frame) → SameWires done ws f → (links : List Link) → Each (LinkAsked c done) links → Known c g.store f (map link_text links) (tagged (link_value c.site.path d ws) links)
     links_known f same [] asked = tt
     links_known f same (l ∷ links) asked = (link_known c site done d ws g f a same l asked.0, links_known f same links asked.1)
@@ -112,7 +112,7 @@ module _ (c : Here) (call : Invoked) where
     enable_known f same enable asked link h = let one = asked link h in link_known c site done d ws g f a same link one.0 ∙ ap (λ u. Given (value u (link_value c.site.path d ws link))) one.1
 
     abbrev Place : ℕ → Port → Type 0
-    Place id o = place_of c (wire_name id o.pin) ≡ Temporary o.ty
+    Place id o = referent_of c (wire_name id o.pin) ≡ Temporary o.ty
 
     -- ENO and OUT in the order of the ports
     in_order : (b : Bool) (id : ℕ) (o : Port) (ws' : Wires) (f' : Frame) → SameWires ((id, o) ∷ (eno_fixed b id ++ done)) ws' f' → SameWires (eno_fixed b id ++ ((id, o) ∷ done)) ws' f'
@@ -127,14 +127,14 @@ module _ (c : Here) (call : Invoked) where
         by false = refl
 
     -- ENO's wire among those behind OUT
-    eno_same : (b : Bool) (id : ℕ) (o : Port) (ws' : Wires) (f' : Frame) → SameWires ((id, o) ∷ (eno_fixed b id ++ done)) ws' f' → b ≡ true → ws' id eno ≡ f' (folded (wire_name id eno))
+    eno_same : (b : Bool) (id : ℕ) (o : Port) (ws' : Wires) (f' : Frame) → SameWires ((id, o) ∷ (eno_fixed b id ++ done)) ws' f' → b ≡ true → ws' id eno ≡ f' (in_lower_case (wire_name id eno))
     eno_same true id o ws' f' same h = same.1.0
     eno_same false id o ws' f' same h = absurd (cc)
 
     -- ENO and OUT under NOT, behind all others
     turns_alike : (enable : Enable) (negated : Bool) (id : ℕ) → id < 2 ^ 64 → (t : Ty) → (negated ≡ true → t ≡ ty.Bool) → Each (Place id) (eno_ports enable) → Place id (port out t)
-        → (d' : Diagram) (ws' : Wires) (g' : Run) (f' : Frame) → Agree d' g' → SameWires ((id, port out t) ∷ (eno_fixed (has_eno enable) id ++ done)) ws' f'
-        → Alike (SameWires ((id, port out t) ∷ (eno_fixed (has_eno enable) id ++ done))) (Ended d' (turn negated id out (turn (eno_negated enable) id eno ws'))) (run_list (turned_if (eno_negated enable) id eno ++ turned_if negated id out) c call g' f')
+        → (d' : DiagramState) (ws' : Wires) (g' : TextState) (f' : Frame) → Agree d' g' → SameWires ((id, port out t) ∷ (eno_fixed (has_eno enable) id ++ done)) ws' f'
+        → Alike (SameWires ((id, port out t) ∷ (eno_fixed (has_eno enable) id ++ done))) (Ended d' (turn negated id out (turn (eno_negated enable) id eno ws'))) (list_runs (turned_if (eno_negated enable) id eno ++ turned_if negated id out) c call g' f')
     turns_alike enable negated id small t bool enos place d' ws' g' f' a' same' =
         let D = (id, port out t) ∷ (eno_fixed (has_eno enable) id ++ done) in
         alike_as _ _ (run_append (turned_if (eno_negated enable) id eno) (turned_if negated id out) c call g' f')
@@ -148,7 +148,7 @@ module _ (c : Here) (call : Invoked) where
         → Alike (SameWires (map (λ (p : Port). (id, p)) (eno_ports enable ++ port out (out_type fn t) ∷ []) ++ done))
         (with_result (function_result fn t links (enable_value (link_value c.site.path d ws) enable) (link_value c.site.path d ws)) d (λ n.
         Ended d (turn negated id out (turn (eno_negated enable) id eno (fix (fix_eno enable id (enable_value (link_value c.site.path d ws) enable) ws) id out n)))))
-        (run_list (eno_text id enable ++ (out_default id enable (out_type fn t) ++ (enabled id enable (Assign (wire_name id out) (function_text fn (map link_text links)))
+        (list_runs (eno_text id enable ++ (out_default id enable (out_type fn t) ++ (enabled id enable (Assign (wire_name id out) (function_text fn (map link_text links)))
         ∷ (turned_if (eno_negated enable) id eno ++ turned_if negated id out)))) c call g f)
     function_alike f same fn t enable links negated id small fresh asked enabling bool places =
         let values = link_value c.site.path d ws in
@@ -168,10 +168,10 @@ module _ (c : Here) (call : Invoked) where
         let first = eno_runs c call enable id values g f (of_eno (Place id) b enos) (enable_known f same enable enabling) in
         let last = turned_if (eno_negated enable) id eno ++ turned_if negated id out in
         let rest = out_default id enable ot ++ (enabled id enable (Assign (wire_name id out) e) ∷ last) in
-        let text : run_list (eno_text id enable ++ rest) c call g f ≡ then_do (then_do (run_list (out_default id enable ot) c call g f1) (run_statement (enabled id enable (Assign (wire_name id out) e)) c call)) (run_list last c call) =
-        run_append (eno_text id enable) rest c call g f ∙ ap (λ q. then_do q (run_list rest c call)) first
+        let text : list_runs (eno_text id enable ++ rest) c call g f ≡ then_do (then_do (list_runs (out_default id enable ot) c call g f1) (statement_runs (enabled id enable (Assign (wire_name id out) e)) c call)) (list_runs last c call) =
+        run_append (eno_text id enable) rest c call g f ∙ ap (λ q. then_do q (list_runs rest c call)) first
         ∙ run_append (out_default id enable ot) (enabled id enable (Assign (wire_name id out) e) ∷ last) c call g f1
-        ∙ sym (then_then (run_list (out_default id enable ot) c call g f1) (run_statement (enabled id enable (Assign (wire_name id out) e)) c call) (run_list last c call)) in
+        ∙ sym (then_then (list_runs (out_default id enable ot) c call g f1) (statement_runs (enabled id enable (Assign (wire_name id out) e)) c call) (list_runs last c call)) in
         let known_eno : (link : Link) → enable.en ≡ Some link → value_of (wire id eno) c g.store (hold f1 (wire_name id out) (pos 0)) ≡ Given (value ty.Bool v) = λ link h.
         wire_known c g.store (hold f1 (wire_name id out) (pos 0)) id eno ty.Bool (of_eno (Place id) b enos (connected_eno enable link h))
         ∙ ap (λ n. Given (value ty.Bool n)) (eno_kept b (connected_eno enable link h) id small out (pos 0) v f refl) in

@@ -2,8 +2,8 @@
 use Rattle.std.proofs.Common.{◌≡◌, ℕ, suc, zero, List, [], ◌∷◌, ◌++◌, refl, sym, ◌∙◌, subst, arith}
 use Rattle.plcx_meaning.specs.Base.{OutOfTurns, Outcome, Ended, Stopped, Stuck, then_do, spend}
 use Rattle.plcx_meaning.specs.Tree.{Statement, statements}
-use Rattle.plcx_meaning.specs.Evaluate.{Diagram}
-use Rattle.plcx_meaning.specs.Execute.{Run, Frame, Here, Invoked, run_statement, run_statements, run_list}
+use Rattle.plcx_meaning.specs.Evaluate.{DiagramState}
+use Rattle.plcx_meaning.specs.Execute.{TextState, Frame, TextSetting, TextCalls, statement_runs, statements_run, list_runs}
 use Rattle.plcx_meaning.specs.Same.{Agree}
 use Rattle.plcx_meaning.proofs.Alike.{Alike, both_stop}
 
@@ -22,22 +22,22 @@ then_ended (Ended g l) = refl
 then_ended (Stopped s g) = refl
 then_ended Stuck = refl
 
-pub run_append : (a b : List Statement) (c : Here) (call : Invoked) (g : Run) (f : Frame) → run_list (a ++ b) c call g f ≡ then_do (run_list a c call g f) (run_list b c call)
+pub run_append : (a b : List Statement) (c : TextSetting) (call : TextCalls) (g : TextState) (f : Frame) → list_runs (a ++ b) c call g f ≡ then_do (list_runs a c call g f) (list_runs b c call)
 run_append [] b c call g f = refl
 run_append (s ∷ a) b c call g f =
-    then_ext (run_statement s c call g f) _ _ (λ h l. run_append a b c call h l)
-    ∙ sym (then_then (run_statement s c call g f) (run_list a c call) (run_list b c call))
+    then_ext (statement_runs s c call g f) _ _ (λ h l. run_append a b c call h l)
+    ∙ sym (then_then (statement_runs s c call g f) (list_runs a c call) (list_runs b c call))
 
 -- statements within a statement
-pub run_within : (ss : List Statement) (c : Here) (call : Invoked) (g : Run) (f : Frame) → run_statements (statements ss) c call g f ≡ run_list ss c call g f
+pub run_within : (ss : List Statement) (c : TextSetting) (call : TextCalls) (g : TextState) (f : Frame) → statements_run (statements ss) c call g f ≡ list_runs ss c call g f
 run_within [] c call g f = refl
-run_within (s ∷ ss) c call g f = then_ext (run_statement s c call g f) _ _ (λ h l. run_within ss c call h l)
+run_within (s ∷ ss) c call g f = then_ext (statement_runs s c call g f) _ _ (λ h l. run_within ss c call h l)
 
-pub agree_turns : (d : Diagram) (g : Run) (n : ℕ) → Agree d g → Agree (record d { left = n }) (record g { left = n })
+pub agree_turns : (d : DiagramState) (g : TextState) (n : ℕ) → Agree d g → Agree (record d { left = n }) (record g { left = n })
 agree_turns d g n a = record { stores = a.stores; memories = a.memories; lefts = refl }
 
 -- one turn of the budget on both sides
-pub alike_spend : {L K : Type 0} {R : L → K → Type 0} (m n : ℕ) (d : Diagram) (g : Run) (f : ℕ → Outcome Diagram L) (h : ℕ → Outcome Run K)
+pub alike_spend : {L K : Type 0} {R : L → K → Type 0} (m n : ℕ) (d : DiagramState) (g : TextState) (f : ℕ → Outcome DiagramState L) (h : ℕ → Outcome TextState K)
     → m ≡ n → Agree d g → ((v : ℕ) → Alike R (f v) (h v)) → Alike R (spend m d f) (spend n g h)
 alike_spend zero zero d g f h e a go = both_stop OutOfTurns a
 alike_spend zero (suc n) d g f h e a go = absurd (omega arith)

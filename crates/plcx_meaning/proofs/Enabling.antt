@@ -3,14 +3,14 @@ use Rattle.std.proofs.Common.{◌≡◌, ℕ, ℤ, pos, ◌<◌, ◌^◌, Bool, 
 use Rattle.std.specs.Str.{bytes_eq}
 use Rattle.std.proofs.lemmas.Bool.{eq-eqb}
 use Rattle.plcx_types.specs.declared.ty.Ty.TheVariants as ty
-use Rattle.plcx_types.specs.Name.{folded}
+use Rattle.plcx_types.specs.Name.{in_lower_case}
 use Rattle.plcx_funcs.specs.Applied.{value}
 use Rattle.plcx_meaning.specs.Base.{is_true, not_of, Each, Outcome, Ended, Stopped, Stuck}
 use Rattle.plcx_meaning.specs.Tree.{Not}
 use Rattle.plcx_meaning.specs.Functions.{Given}
 use Rattle.plcx_meaning.specs.Diagram.{Enable, has_eno, eno_negated, eno_ports, Link, Port, port}
-use Rattle.plcx_meaning.specs.Evaluate.{Diagram, Wires, fix, turn, enable_value}
-use Rattle.plcx_meaning.specs.Execute.{Temporary, Here, place_of, Run, Frame, hold, value_of, Invoked, run_list}
+use Rattle.plcx_meaning.specs.Evaluate.{DiagramState, Wires, fix, turn, enable_value}
+use Rattle.plcx_meaning.specs.Execute.{Temporary, TextSetting, referent_of, TextState, Frame, hold, value_of, TextCalls, list_runs}
 use Rattle.plcx_meaning.specs.Templates.{wire_name, wire, link_text, eno_text, turned_if}
 use Rattle.plcx_meaning.specs.Same.{Agree}
 use Rattle.plcx_meaning.specs.Fits.{is_fresh}
@@ -42,25 +42,25 @@ pub eno_fresh : (b : Bool) (id : ℕ) → id < 2 ^ 64 → (v : ℤ) (done : List
 eno_fresh true id small v done ws f fresh same = wires_fresh id small eno v done ws f fresh same
 eno_fresh false id small v done ws f fresh same = same
 
-module _ (c : Here) (call : Invoked) where
-  eno_by : (en : Option Link) (listed : Option Bool) (id : ℕ) (values : Link → ℤ) (g : Run) (f : Frame)
-      → (has_eno (record { en = en; eno = listed }) ≡ true → place_of c (wire_name id eno) ≡ Temporary ty.Bool)
+module _ (c : TextSetting) (call : TextCalls) where
+  eno_by : (en : Option Link) (listed : Option Bool) (id : ℕ) (values : Link → ℤ) (g : TextState) (f : Frame)
+      → (has_eno (record { en = en; eno = listed }) ≡ true → referent_of c (wire_name id eno) ≡ Temporary ty.Bool)
       → ((link : Link) → en ≡ Some link → value_of (link_text link) c g.store f ≡ Given (value ty.Bool (values link)))
-      → run_list (eno_text id (record { en = en; eno = listed })) c call g f ≡ Ended g (eno_held (has_eno (record { en = en; eno = listed })) id (enable_value values (record { en = en; eno = listed })) f)
+      → list_runs (eno_text id (record { en = en; eno = listed })) c call g f ≡ Ended g (eno_held (has_eno (record { en = en; eno = listed })) id (enable_value values (record { en = en; eno = listed })) f)
   eno_by (Some link) listed id values g f place known = then_ended _ ∙ assign_temporary c call g f (wire_name id eno) (link_text link) ty.Bool (values link) (place refl) (known link refl)
   eno_by None (Some negated) id values g f place known = then_ended _ ∙ assign_temporary c call g f (wire_name id eno) (Rattle.plcx_meaning.specs.Templates.truth true) ty.Bool (pos 1) (place refl) refl
   eno_by None None id values g f place known = refl
 
-  pub eno_runs : (enable : Enable) (id : ℕ) (values : Link → ℤ) (g : Run) (f : Frame)
-      → (has_eno enable ≡ true → place_of c (wire_name id eno) ≡ Temporary ty.Bool)
+  pub eno_runs : (enable : Enable) (id : ℕ) (values : Link → ℤ) (g : TextState) (f : Frame)
+      → (has_eno enable ≡ true → referent_of c (wire_name id eno) ≡ Temporary ty.Bool)
       → ((link : Link) → enable.en ≡ Some link → value_of (link_text link) c g.store f ≡ Given (value ty.Bool (values link)))
-      → run_list (eno_text id enable) c call g f ≡ Ended g (eno_held (has_eno enable) id (enable_value values enable) f)
+      → list_runs (eno_text id enable) c call g f ≡ Ended g (eno_held (has_eno enable) id (enable_value values enable) f)
   eno_runs enable id values g f place known = eno_by enable.en enable.eno id values g f place known
 
   -- a wire under NOT
-  pub turn_alike : (b : Bool) (id : ℕ) → id < 2 ^ 64 → (pin : List ℕ) (done : List (ℕ × Port)) (d : Diagram) (ws : Wires) (g : Run) (f : Frame) → Agree d g → SameWires done ws f
-      → (b ≡ true → (place_of c (wire_name id pin) ≡ Temporary ty.Bool) × (ws id pin ≡ f (folded (wire_name id pin))))
-      → Alike (SameWires done) (Ended d (turn b id pin ws)) (run_list (turned_if b id pin) c call g f)
+  pub turn_alike : (b : Bool) (id : ℕ) → id < 2 ^ 64 → (pin : List ℕ) (done : List (ℕ × Port)) (d : DiagramState) (ws : Wires) (g : TextState) (f : Frame) → Agree d g → SameWires done ws f
+      → (b ≡ true → (referent_of c (wire_name id pin) ≡ Temporary ty.Bool) × (ws id pin ≡ f (in_lower_case (wire_name id pin))))
+      → Alike (SameWires done) (Ended d (turn b id pin ws)) (list_runs (turned_if b id pin) c call g f)
   turn_alike false id small pin done d ws g f a same asked = both_end a same
   turn_alike true id small pin done d ws g f a same asked =
       let place = (asked refl).0 in
@@ -86,12 +86,12 @@ fixed_ports enable id = by (has_eno enable)
     by false = refl
 
 -- ENO's temporary is none of another pin's
-pub eno_apart : (id : ℕ) → id < 2 ^ 64 → (pin : List ℕ) (n : ℤ) (f : Frame) → bytes_eq (folded eno) (folded pin) ≡ false → hold f (wire_name id pin) n (folded (wire_name id eno)) ≡ f (folded (wire_name id eno))
+pub eno_apart : (id : ℕ) → id < 2 ^ 64 → (pin : List ℕ) (n : ℤ) (f : Frame) → bytes_eq (in_lower_case eno) (in_lower_case pin) ≡ false → hold f (wire_name id pin) n (in_lower_case (wire_name id eno)) ≡ f (in_lower_case (wire_name id eno))
 eno_apart id small pin n f apart =
-    ap (λ b. if b then n else f (folded (wire_name id eno))) (same_wires_to id eno id pin small ∙ ap (λ b. b && bytes_eq (folded eno) (folded pin)) (eq-eqb id id refl) ∙ apart)
+    ap (λ b. if b then n else f (in_lower_case (wire_name id eno))) (same_wires_to id eno id pin small ∙ ap (λ b. b && bytes_eq (in_lower_case eno) (in_lower_case pin)) (eq-eqb id id refl) ∙ apart)
 
 -- the relation may be weaker
-pub alike_weaker : {L K : Type 0} {R : L → K → Type 0} {S : L → K → Type 0} (o : Outcome Diagram L) (p : Outcome Run K) → Alike R o p → ((l : L) (k : K) → R l k → S l k) → Alike S o p
+pub alike_weaker : {L K : Type 0} {R : L → K → Type 0} {S : L → K → Type 0} (o : Outcome DiagramState L) (p : Outcome TextState K) → Alike R o p → ((l : L) (k : K) → R l k → S l k) → Alike S o p
 alike_weaker (Ended d l) (Ended g k) a go = both_end a.is.0 (go l k a.is.1)
 alike_weaker (Stopped s d) (Stopped r g) a go = record { is = a.is }
 alike_weaker (Ended d l) (Stopped r g) a go = absurd a.is
@@ -110,8 +110,8 @@ of_eno P true all h = all.0
 of_eno P false all h = absurd (cc)
 
 -- what the temporary of ENO holds behind an assignment to another
-pub eno_kept : (b : Bool) → b ≡ true → (id : ℕ) → id < 2 ^ 64 → (pin : List ℕ) (n v : ℤ) (f : Frame) → bytes_eq (folded eno) (folded pin) ≡ false → hold (eno_held b id v f) (wire_name id pin) n (folded (wire_name id eno)) ≡ v
-eno_kept true h id small pin n v f apart = eno_apart id small pin n (hold f (wire_name id eno) v) apart ∙ ap (λ b. if b then v else f (folded (wire_name id eno))) (bytes_self (folded (wire_name id eno)))
+pub eno_kept : (b : Bool) → b ≡ true → (id : ℕ) → id < 2 ^ 64 → (pin : List ℕ) (n v : ℤ) (f : Frame) → bytes_eq (in_lower_case eno) (in_lower_case pin) ≡ false → hold (eno_held b id v f) (wire_name id pin) n (in_lower_case (wire_name id eno)) ≡ v
+eno_kept true h id small pin n v f apart = eno_apart id small pin n (hold f (wire_name id eno) v) apart ∙ ap (λ b. if b then v else f (in_lower_case (wire_name id eno))) (bytes_self (in_lower_case (wire_name id eno)))
 eno_kept false h id small pin n v f apart = absurd (cc)
 
 -- a connected EN has an ENO

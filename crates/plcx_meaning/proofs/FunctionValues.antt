@@ -8,7 +8,7 @@ use Rattle.std.proofs.lemmas.Bool.{and_parts, eq-eqb}
 use Rattle.plcx_types.specs.declared.fault.Fault.{Fault}
 use Rattle.plcx_types.specs.declared.ty.Ty.{Ty}
 use Rattle.plcx_types.specs.declared.ty.Ty.TheVariants as ty
-use Rattle.plcx_types.specs.TypeName.{same_ty, place_of_type}
+use Rattle.plcx_types.specs.TypeName.{same_ty, position_of_type}
 use Rattle.plcx_types.specs.Value.{Value}
 use Rattle.plcx_types.proofs.TypeTable.{same_is}
 use Rattle.plcx_funcs.specs.declared.func.Func.{Func}
@@ -22,7 +22,7 @@ use Rattle.plcx_funcs.proofs.Found.{found_again}
 use Rattle.plcx_meaning.specs.Base.{Path, Each, truth, and_of, or_of, not_of}
 use Rattle.plcx_meaning.specs.Tree.{Operator, Or, Xor, And, Equal, NotEqual, Less, Greater, LessOrEqual, GreaterOrEqual, Plus, Minus, Times, Divide, Mod, Expression, Apply, Not, Binary, expressions}
 use Rattle.plcx_meaning.specs.Functions.{Given, Faulty, group_of, all_suit, can_apply, out_type, answer, call_function}
-use Rattle.plcx_meaning.specs.Execute.{Here, Frame, function_of, value_of, values_of}
+use Rattle.plcx_meaning.specs.Execute.{TextSetting, Frame, function_of, value_of, values_of}
 use Rattle.plcx_meaning.specs.Templates.{both, chain, compared, neighbours, negation, function_text}
 
 and_true : (b : Bool) → (b && true) ≡ b
@@ -43,7 +43,7 @@ abbrev pub types : List Value → List Ty
 types vs = map (λ (v : Value). v.ty) vs
 
 pub same_type : (t : Ty) → same_ty t t ≡ true
-same_type t = eq-eqb (place_of_type t) (place_of_type t) refl
+same_type t = eq-eqb (position_of_type t) (position_of_type t) refl
 
 -- a call on values that suit it
 pub call_is : (g : Func) (t : Ty) (vs : List Value) → group_of g (types vs) ≡ Some t → can_apply g t (types vs) ≡ true → call_function g vs ≡ answer (out_type g t) (applied g t vs)
@@ -98,7 +98,7 @@ pub two : (op : Operator) (t : Ty) (n m : ℤ) → takes (function_of op) t ≡ 
     → call_function (function_of op) (value t n ∷ value t m ∷ []) ≡ answer (out_type (function_of op) t) (applied (function_of op) t (value t n ∷ value t m ∷ []))
 two op t n m h = call_is (function_of op) t (value t n ∷ value t m ∷ []) (two_group op t) (two_apply op t h)
 
-module _ (c : Here) (s : Path → ℤ) (f : Frame) where
+module _ (c : TextSetting) (s : Path → ℤ) (f : Frame) where
   -- the values of expressions
   abbrev pub Known : List Expression → List Value → Type 0
   Known [] [] = Unit {0}

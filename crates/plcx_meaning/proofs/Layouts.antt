@@ -6,19 +6,19 @@ use Rattle.std.specs.Str.{bytes_eq}
 use Rattle.std.proofs.lemmas.Grind.{flat_map-append}
 use Rattle.std.proofs.lemmas.List.Elements.{filter-append}
 use Rattle.plcx_types.specs.declared.ty.Ty.{Ty}
-use Rattle.plcx_types.specs.Name.{folded}
+use Rattle.plcx_types.specs.Name.{in_lower_case}
 use Rattle.plcx_types.specs.Reserved.{is_own}
 use Rattle.plcx_types.specs.TypeName.{type_named}
 use Rattle.plcx_meaning.specs.Base.{Path, is_declared, Each}
 use Rattle.plcx_meaning.specs.Tree.{Mark, Plain}
-use Rattle.plcx_meaning.specs.Layout.{Variable, variable_named, Meaning, Elementary, Composed, composed, meaning, parts, parts_of, Scope, variables_at, variable_at, initial_of, initial_at, is_marked, is_retained, Leaf, is_outside, is_constant, leaf_of, is_kept, variable_leaves, leaves, layout, declared_leaves, Restart, Warm, Cold, begun, restarted}
+use Rattle.plcx_meaning.specs.Layout.{Variable, variable_named, Meaning, Elementary, Composed, composed, meaning, parts, parts_of, Scope, variables_at, variable_at, initial_of, initial_at, is_marked, is_retained, Spelling, path_of, Leaf, is_outside, is_constant, leaf_of, is_kept, variable_leaves, leaves, layout, declared_leaves, Restart, Warm, Cold, begun, restarted}
 use Rattle.plcx_meaning.proofs.Lists.{each_weaker, each_from}
 use Rattle.plcx_meaning.proofs.Lookups.{named_second, named_alone, IsOwnVariable, IsDeclaredVariable, own_not_named, declared_not_named}
 use Rattle.plcx_meaning.proofs.Blocks.{declared_leaf, declared_parts}
 
 -- a variable of the compiler's own, which begins at 0 and is retained only where its instance is
 pub record IsHidden (v : Variable) : Type 0 where
-  pub own : is_own (folded v.name) ≡ true
+  pub own : is_own (in_lower_case v.name) ≡ true
   pub mark : v.mark ≡ Plain
   pub initial : v.initial ≡ None
 
@@ -33,7 +33,7 @@ extends_alone vs declared = record { own = []; is = sym (append-nil vs); declare
 
 own_begins : (x : List ℕ) (os : List Variable) → Each IsHidden os → (initial_of (variable_named x os) ≡ pos 0) × (is_marked (variable_named x os) ≡ false)
 own_begins x [] owned = (refl, refl)
-own_begins x (o ∷ os) owned = by_test (bytes_eq (folded o.name) x) (own_begins x os owned.1)
+own_begins x (o ∷ os) owned = by_test (bytes_eq (in_lower_case o.name) x) (own_begins x os owned.1)
   where
     by_test : (b : Bool) → (initial_of (variable_named x os) ≡ pos 0) × (is_marked (variable_named x os) ≡ false)
         → (initial_of (if b then Some o else variable_named x os) ≡ pos 0) × (is_marked (if b then Some o else variable_named x os) ≡ false)
@@ -76,26 +76,27 @@ same_each f h (v ∷ vs) same =
     ∙ ap₂ (λ xs ys. xs ++ ys) same.0 (same_each f h vs same.1)
     ∙ sym (filter-append (λ (leaf : Leaf). is_declared leaf.path) (h v) (flat_map h vs))
 
-variable_hides : (inner : Path → List Variable → List Leaf) → ((p : Path) → is_declared p ≡ false → (vs : List Variable) → declared_leaves (inner p vs) ≡ [])
-    → (c : Scope) (p : Path) (v : Variable) → is_declared (folded v.name ∷ p) ≡ false → declared_leaves (variable_leaves inner c p v) ≡ []
+variable_hides : (inner : Spelling → List Variable → List Leaf) → ((p : Spelling) → is_declared (path_of p) ≡ false → (vs : List Variable) → declared_leaves (inner p vs) ≡ [])
+    → (c : Scope) (p : Spelling) (v : Variable) → is_declared (in_lower_case v.name ∷ path_of p) ≡ false → declared_leaves (variable_leaves inner c p v) ≡ []
 variable_hides inner hides c p v h = by_class (is_kept v.class)
   where
-    by_meaning : (m : Meaning) → declared_leaves (elim m [ Elementary t ↦ leaf_of c (folded v.name ∷ p) t v.mark ∷ [] | Composed vs ↦ inner (folded v.name ∷ p) vs ]) ≡ []
-    by_meaning (Elementary t) = no_leaf (leaf_of c (folded v.name ∷ p) t v.mark) h
-    by_meaning (Composed vs) = hides (folded v.name ∷ p) h vs
+    by_meaning : (m : Meaning) → declared_leaves (elim m [ Elementary t ↦ leaf_of c (v.name ∷ p) t v.mark ∷ [] | Composed vs ↦ inner (v.name ∷ p) vs ]) ≡ []
+    by_meaning (Elementary t) = no_leaf (leaf_of c (v.name ∷ p) t v.mark) h
+    by_meaning (Composed vs) = hides (v.name ∷ p) h vs
 
-    by_class : (b : Bool) → declared_leaves (if b then (elim (meaning c.world v.ty) [ Elementary t ↦ leaf_of c (folded v.name ∷ p) t v.mark ∷ [] | Composed vs ↦ inner (folded v.name ∷ p) vs ]) else []) ≡ []
+    by_class : (b : Bool) → declared_leaves (if b then (elim (meaning c.world v.ty) [ Elementary t ↦ leaf_of c (v.name ∷ p) t v.mark ∷ [] | Composed vs ↦ inner (v.name ∷ p) vs ]) else []) ≡ []
     by_class true = by_meaning (meaning c.world v.ty)
     by_class false = refl
 
-leaves_hide : (n : ℕ) (c : Scope) (p : Path) → is_declared p ≡ false → (vs : List Variable) → declared_leaves (leaves n c p vs) ≡ []
+leaves_hide : (n : ℕ) (c : Scope) (p : Spelling) → is_declared (path_of p) ≡ false → (vs : List Variable) → declared_leaves (leaves n c p vs) ≡ []
 leaves_hide zero c p h vs = refl
 leaves_hide (suc n) c p h vs =
     none_each (variable_leaves (leaves n c) c p) vs
-    (each_from (λ v. declared_leaves (variable_leaves (leaves n c) c p v) ≡ []) vs (λ v there. variable_hides (leaves n c) (leaves_hide n c) c p v (below_own (folded v.name) p h)))
+    (each_from (λ v. declared_leaves (variable_leaves (leaves n c) c p v) ≡ []) vs (λ v there. variable_hides (leaves n c) (leaves_hide n c) c p v (below_own (in_lower_case v.name) (path_of p) h)))
 
-abbrev the_leaf : Path → Ty → Mark → ℤ → Bool → Leaf
-the_leaf p t mark initial retained = record { path = p; ty = t; initial = initial; retained = retained; settable = is_outside p && not (is_constant mark); shown = is_outside p }
+abbrev the_leaf : Spelling → Ty → Mark → ℤ → Bool → Leaf
+the_leaf p t mark initial retained =
+    record { path = path_of p; spelled = p; ty = t; initial = initial; retained = retained; settable = is_outside (path_of p) && not (is_constant mark); shown = is_outside (path_of p) }
 
 module _ (c e : Scope) (worlds : (name : List ℕ) → Extends (composed c.world name) (composed e.world name)) (owns : Extends c.own e.own) where
   parts_extend : (o : Option Variable) → Extends (parts_of c.world o) (parts_of e.world o)
@@ -137,35 +138,35 @@ module _ (c e : Scope) (worlds : (name : List ℕ) → Extends (composed c.world
       or_none false = refl
 
   -- declared leaves are the same
-  leaf_same : (p : Path) (t : Ty) (mark : Mark) → is_declared p ≡ true → leaf_of c p t mark ≡ leaf_of e p t mark
+  leaf_same : (p : Spelling) (t : Ty) (mark : Mark) → is_declared (path_of p) ≡ true → leaf_of c p t mark ≡ leaf_of e p t mark
   leaf_same p t mark h =
       ap₂ (the_leaf p t mark)
-      (sym (initial_same p h)) (sym (retained_same p h))
+      (sym (initial_same (path_of p) h)) (sym (retained_same (path_of p) h))
 
-  variable_same_leaves : (n : ℕ) → ((p : Path) → is_declared p ≡ true → (vs ws : List Variable) → Extends vs ws → declared_leaves (leaves n c p vs) ≡ declared_leaves (leaves n e p ws))
-      → (p : Path) → is_declared p ≡ true → (v : Variable) → IsDeclaredVariable v → declared_leaves (variable_leaves (leaves n c) c p v) ≡ declared_leaves (variable_leaves (leaves n e) e p v)
+  variable_same_leaves : (n : ℕ) → ((p : Spelling) → is_declared (path_of p) ≡ true → (vs ws : List Variable) → Extends vs ws → declared_leaves (leaves n c p vs) ≡ declared_leaves (leaves n e p ws))
+      → (p : Spelling) → is_declared (path_of p) ≡ true → (v : Variable) → IsDeclaredVariable v → declared_leaves (variable_leaves (leaves n c) c p v) ≡ declared_leaves (variable_leaves (leaves n e) e p v)
   variable_same_leaves n below p h v own = by_class (is_kept v.class)
     where
       by_type : (o : Option Ty)
-          → declared_leaves (elim (elim o as (λ x. Meaning) [ Some t ↦ Elementary t | None ↦ Composed (composed c.world v.ty) ]) [ Elementary t ↦ leaf_of c (folded v.name ∷ p) t v.mark ∷ [] | Composed vs ↦ leaves n c (folded v.name ∷ p) vs ])
-          ≡ declared_leaves (elim (elim o as (λ x. Meaning) [ Some t ↦ Elementary t | None ↦ Composed (composed e.world v.ty) ]) [ Elementary t ↦ leaf_of e (folded v.name ∷ p) t v.mark ∷ [] | Composed vs ↦ leaves n e (folded v.name ∷ p) vs ])
-      by_type (Some t) = ap (λ leaf. declared_leaves (leaf ∷ [])) (leaf_same (folded v.name ∷ p) t v.mark (declared_leaf (folded v.name) p own h))
-      by_type None = below (folded v.name ∷ p) (declared_leaf (folded v.name) p own h) (composed c.world v.ty) (composed e.world v.ty) (worlds v.ty)
+          → declared_leaves (elim (elim o as (λ x. Meaning) [ Some t ↦ Elementary t | None ↦ Composed (composed c.world v.ty) ]) [ Elementary t ↦ leaf_of c (v.name ∷ p) t v.mark ∷ [] | Composed vs ↦ leaves n c (v.name ∷ p) vs ])
+          ≡ declared_leaves (elim (elim o as (λ x. Meaning) [ Some t ↦ Elementary t | None ↦ Composed (composed e.world v.ty) ]) [ Elementary t ↦ leaf_of e (v.name ∷ p) t v.mark ∷ [] | Composed vs ↦ leaves n e (v.name ∷ p) vs ])
+      by_type (Some t) = ap (λ leaf. declared_leaves (leaf ∷ [])) (leaf_same (v.name ∷ p) t v.mark (declared_leaf (in_lower_case v.name) (path_of p) own h))
+      by_type None = below (v.name ∷ p) (declared_leaf (in_lower_case v.name) (path_of p) own h) (composed c.world v.ty) (composed e.world v.ty) (worlds v.ty)
 
       by_class : (b : Bool)
-          → declared_leaves (if b then (elim (meaning c.world v.ty) [ Elementary t ↦ leaf_of c (folded v.name ∷ p) t v.mark ∷ [] | Composed vs ↦ leaves n c (folded v.name ∷ p) vs ]) else [])
-          ≡ declared_leaves (if b then (elim (meaning e.world v.ty) [ Elementary t ↦ leaf_of e (folded v.name ∷ p) t v.mark ∷ [] | Composed vs ↦ leaves n e (folded v.name ∷ p) vs ]) else [])
+          → declared_leaves (if b then (elim (meaning c.world v.ty) [ Elementary t ↦ leaf_of c (v.name ∷ p) t v.mark ∷ [] | Composed vs ↦ leaves n c (v.name ∷ p) vs ]) else [])
+          ≡ declared_leaves (if b then (elim (meaning e.world v.ty) [ Elementary t ↦ leaf_of e (v.name ∷ p) t v.mark ∷ [] | Composed vs ↦ leaves n e (v.name ∷ p) vs ]) else [])
       by_class true = by_type (type_named v.ty)
       by_class false = refl
 
-  leaves_same : (n : ℕ) (p : Path) → is_declared p ≡ true → (vs ws : List Variable) → Extends vs ws → declared_leaves (leaves n c p vs) ≡ declared_leaves (leaves n e p ws)
+  leaves_same : (n : ℕ) (p : Spelling) → is_declared (path_of p) ≡ true → (vs ws : List Variable) → Extends vs ws → declared_leaves (leaves n c p vs) ≡ declared_leaves (leaves n e p ws)
   leaves_same zero p h vs ws ext = refl
   leaves_same (suc n) p h vs ws ext =
       same_each (variable_leaves (leaves n c) c p) (variable_leaves (leaves n e) e p) vs
       (each_weaker IsDeclaredVariable _ vs (λ v own. variable_same_leaves n (λ q. leaves_same n q) p h v own) ext.declared)
       ∙ sym (append-nil (declared_leaves (flat_map (variable_leaves (leaves n e) e p) vs)))
       ∙ ap (λ ls. declared_leaves (flat_map (variable_leaves (leaves n e) e p) vs) ++ ls)
-      (sym (none_each (variable_leaves (leaves n e) e p) ext.own (each_weaker IsHidden _ ext.own (λ o own. variable_hides (leaves n e) (leaves_hide n e) e p o (own_leaf (folded o.name) p own.own)) ext.owned)))
+      (sym (none_each (variable_leaves (leaves n e) e p) ext.own (each_weaker IsHidden _ ext.own (λ o own. variable_hides (leaves n e) (leaves_hide n e) e p o (own_leaf (in_lower_case o.name) (path_of p) own.own)) ext.owned)))
       ∙ sym (filter-append (λ (leaf : Leaf). is_declared leaf.path) (flat_map (variable_leaves (leaves n e) e p) vs) (flat_map (variable_leaves (leaves n e) e p) ext.own))
       ∙ ap declared_leaves (sym (ap (flat_map (variable_leaves (leaves n e) e p)) ext.is ∙ flat_map-append (variable_leaves (leaves n e) e p) vs ext.own))
 

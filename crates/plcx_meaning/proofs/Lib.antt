@@ -1,4 +1,5 @@
 pub mod Lists
+pub mod Fed
 pub mod FunctionValues
 pub mod Alike
 pub mod Asked
@@ -22,11 +23,14 @@ pub mod Units
 pub mod Nesting
 pub mod Layouts
 pub mod Declared
+pub mod Times
+pub mod Starts
 pub mod Events
 pub mod Traced
 pub mod Turns
 pub mod Fuel
 pub mod FuelOfDiagrams
+pub mod HeardBefore
 mod ExamplesFit
 pub mod Stuck
 pub mod StuckBodies
@@ -39,3 +43,6 @@ pub mod ReadyBodies
 pub mod ReadyNames
 pub mod ReadySizes
 pub mod ReadyUnits
+pub mod LeafPaths
+pub mod LeafScopes
+pub mod ListedWords

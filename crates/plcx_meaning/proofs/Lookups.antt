@@ -4,7 +4,7 @@ use Rattle.std.specs.Prelude.{nat_eq}
 use Rattle.std.specs.List.{list_any, flat_map, Contains}
 use Rattle.std.specs.Str.{bytes_eq}
 use Rattle.std.proofs.lemmas.Bool.{and_parts, not-true, both_ways}
-use Rattle.plcx_types.specs.Name.{folded}
+use Rattle.plcx_types.specs.Name.{in_lower_case}
 use Rattle.plcx_types.specs.Reserved.{is_own}
 use Rattle.plcx_meaning.specs.Base.{Each, all_differ}
 use Rattle.plcx_meaning.specs.Tree.{Class, Local, Temp, Mark, Plain, Declaration, Block}
@@ -60,7 +60,7 @@ text_variables p =
 -- what is found in the first of two lists, and in the second
 pub named_first : (key : List ℕ) (a b : List Variable) (v : Variable) → variable_named key a ≡ Some v → variable_named key (a ++ b) ≡ Some v
 named_first key [] b v h = absurd (cc)
-named_first key (w ∷ a) b v h = by_test (bytes_eq (folded w.name) key) (named_first key a b v) h
+named_first key (w ∷ a) b v h = by_test (bytes_eq (in_lower_case w.name) key) (named_first key a b v) h
   where
     by_test : (t : Bool) → (variable_named key a ≡ Some v → variable_named key (a ++ b) ≡ Some v) → cond t (Some w) (variable_named key a) ≡ Some v → cond t (Some w) (variable_named key (a ++ b)) ≡ Some v
     by_test true later e = e
@@ -68,7 +68,7 @@ named_first key (w ∷ a) b v h = by_test (bytes_eq (folded w.name) key) (named_
 
 pub named_second : (key : List ℕ) (a b : List Variable) → variable_named key a ≡ None → variable_named key (a ++ b) ≡ variable_named key b
 named_second key [] b h = refl
-named_second key (w ∷ a) b h = by_test (bytes_eq (folded w.name) key) (named_second key a b) h
+named_second key (w ∷ a) b h = by_test (bytes_eq (in_lower_case w.name) key) (named_second key a b) h
   where
     by_test : (t : Bool) → (variable_named key a ≡ None → variable_named key (a ++ b) ≡ variable_named key b) → cond t (Some w) (variable_named key a) ≡ None → cond t (Some w) (variable_named key (a ++ b)) ≡ variable_named key b
     by_test true later e = absurd (cc)
@@ -77,44 +77,44 @@ named_second key (w ∷ a) b h = by_test (bytes_eq (folded w.name) key) (named_s
 -- where the first has the name or the second hasn't, the second doesn't matter
 pub named_alone : (key : List ℕ) (a b : List Variable) → variable_named key b ≡ None → variable_named key (a ++ b) ≡ variable_named key a
 named_alone key [] b h = h
-named_alone key (w ∷ a) b h = ap (λ o. cond (bytes_eq (folded w.name) key) (Some w) o) (named_alone key a b h)
+named_alone key (w ∷ a) b h = ap (λ o. cond (bytes_eq (in_lower_case w.name) key) (Some w) o) (named_alone key a b h)
 
 -- a variable is found under its own name, and is one of the list
-pub found_name : (key : List ℕ) (vs : List Variable) (v : Variable) → variable_named key vs ≡ Some v → folded v.name ≡ key
+pub found_name : (key : List ℕ) (vs : List Variable) (v : Variable) → variable_named key vs ≡ Some v → in_lower_case v.name ≡ key
 found_name key [] v h = absurd (cc)
-found_name key (w ∷ vs) v h = by_test (bytes_eq (folded w.name) key) refl (found_name key vs v) h
+found_name key (w ∷ vs) v h = by_test (bytes_eq (in_lower_case w.name) key) refl (found_name key vs v) h
   where
-    by_test : (t : Bool) → bytes_eq (folded w.name) key ≡ t → (variable_named key vs ≡ Some v → folded v.name ≡ key) → cond t (Some w) (variable_named key vs) ≡ Some v → folded v.name ≡ key
-    by_test true e later h = let same : w ≡ v = cc in subst (λ (u : Variable). folded u.name ≡ key) same (bytes_same (folded w.name) key e)
+    by_test : (t : Bool) → bytes_eq (in_lower_case w.name) key ≡ t → (variable_named key vs ≡ Some v → in_lower_case v.name ≡ key) → cond t (Some w) (variable_named key vs) ≡ Some v → in_lower_case v.name ≡ key
+    by_test true e later h = let same : w ≡ v = cc in subst (λ (u : Variable). in_lower_case u.name ≡ key) same (bytes_same (in_lower_case w.name) key e)
     by_test false e later h = later h
 
 pub each_found : (P : Variable → Type 0) (key : List ℕ) (vs : List Variable) (v : Variable) → Each P vs → variable_named key vs ≡ Some v → P v
 each_found P key [] v all h = absurd (cc)
-each_found P key (w ∷ vs) v all h = by_test (bytes_eq (folded w.name) key) (each_found P key vs v all.1) h
+each_found P key (w ∷ vs) v all h = by_test (bytes_eq (in_lower_case w.name) key) (each_found P key vs v all.1) h
   where
     by_test : (t : Bool) → (variable_named key vs ≡ Some v → P v) → cond t (Some w) (variable_named key vs) ≡ Some v → P v
     by_test true later h = let same : w ≡ v = cc in subst P same all.0
     by_test false later h = later h
 
 -- a name that none of the variables has
-pub not_named : (key : List ℕ) (vs : List Variable) → Each (λ (v : Variable). bytes_eq (folded v.name) key ≡ false) vs → variable_named key vs ≡ None
+pub not_named : (key : List ℕ) (vs : List Variable) → Each (λ (v : Variable). bytes_eq (in_lower_case v.name) key ≡ false) vs → variable_named key vs ≡ None
 not_named key [] all = refl
 not_named key (v ∷ vs) all = rw (all.0) (not_named key vs all.1)
 
 -- the compiler's own variables, and those of a diagram
 abbrev pub IsOwnVariable : Variable → Type 0
-IsOwnVariable v = is_own (folded v.name) ≡ true
+IsOwnVariable v = is_own (in_lower_case v.name) ≡ true
 
 abbrev pub IsDeclaredVariable : Variable → Type 0
-IsDeclaredVariable v = is_own (folded v.name) ≡ false
+IsDeclaredVariable v = is_own (in_lower_case v.name) ≡ false
 
 pub own_not_named : (key : List ℕ) (vs : List Variable) → is_own key ≡ true → Each IsDeclaredVariable vs → variable_named key vs ≡ None
 own_not_named key [] own all = refl
-own_not_named key (v ∷ vs) own all = rw (apart_from_own (folded v.name) key all.0 own) (own_not_named key vs own all.1)
+own_not_named key (v ∷ vs) own all = rw (apart_from_own (in_lower_case v.name) key all.0 own) (own_not_named key vs own all.1)
 
 pub declared_not_named : (key : List ℕ) (vs : List Variable) → is_own key ≡ false → Each IsOwnVariable vs → variable_named key vs ≡ None
 declared_not_named key [] own all = refl
-declared_not_named key (v ∷ vs) own all = rw (bytes_apart (folded v.name) key (λ e. both_ways (is_own key) own (ap is_own (sym e) ∙ all.0))) (declared_not_named key vs own all.1)
+declared_not_named key (v ∷ vs) own all = rw (bytes_apart (in_lower_case v.name) key (λ e. both_ways (is_own key) own (ap is_own (sym e) ∙ all.0))) (declared_not_named key vs own all.1)
 
 -- the variables of things that are told apart by a number
 pub named_in : {A : Type 0} (f : A → List Variable) (id : A → ℕ) (key : List ℕ) (n : ℕ) → ((y : A) → nat_eq (id y) n ≡ false → variable_named key (f y) ≡ None)

@@ -10,7 +10,7 @@ use Rattle.std.proofs.lemmas.Bool.Decides.{nat_tests, same_from_decides, Decides
 use Rattle.std.proofs.lemmas.List.{take-map}
 use Rattle.std.proofs.lemmas.Slice.Eq.{bytes_eq-Decides}
 use Rattle.std.proofs.lemmas.Fmt.{decimal_is_IsNumeral_wide, length-decimal-le}
-use Rattle.plcx_types.specs.Name.{folded}
+use Rattle.plcx_types.specs.Name.{in_lower_case}
 use Rattle.plcx_types.specs.Reserved.{is_own, is_listed, is_reserved}
 use Rattle.plcx_meaning.specs.Base.{Memory, AtEdge, AtOutput, same_memory}
 use Rattle.plcx_meaning.specs.Templates.{suffix, wire_name, memory_name, counter_name}
@@ -38,11 +38,11 @@ numbers_swapped i j = same_from_decides {P = i ≡ j} _ _ (Decides-eqb i j) ((λ
 lower_twice : (c : ℕ) → to_ascii_lowercase (to_ascii_lowercase c) ≡ to_ascii_lowercase c
 lower_twice c = grind (arith, nat_tests)
 
-pub folded_twice : (x : List ℕ) → folded (folded x) ≡ folded x
+pub folded_twice : (x : List ℕ) → in_lower_case (in_lower_case x) ≡ in_lower_case x
 folded_twice [] = refl
 folded_twice (c ∷ x) = let here = lower_twice c in let rest = folded_twice x in cc
 
-pub folded_append : (x y : List ℕ) → folded (x ++ y) ≡ folded x ++ folded y
+pub folded_append : (x y : List ℕ) → in_lower_case (x ++ y) ≡ in_lower_case x ++ in_lower_case y
 folded_append [] y = refl
 folded_append (c ∷ x) y = ap (λ rest. to_ascii_lowercase c ∷ rest) (folded_append x y)
 
@@ -50,13 +50,13 @@ folded_append (c ∷ x) y = ap (λ rest. to_ascii_lowercase c ∷ rest) (folded_
 abbrev own_of : List ℕ → Bool
 own_of x = bytes_eq (take 5 x) (codes "plcx_")
 
-own_is : (x : List ℕ) → is_own x ≡ own_of (folded x)
+own_is : (x : List ℕ) → is_own x ≡ own_of (in_lower_case x)
 own_is x = ap (λ front. bytes_eq front (codes "plcx_")) (sym (take-map to_ascii_lowercase 5 x))
 
-pub own_folded : (x : List ℕ) → is_own (folded x) ≡ is_own x
-own_folded x = own_is (folded x) ∙ ap own_of (folded_twice x) ∙ sym (own_is x)
+pub own_folded : (x : List ℕ) → is_own (in_lower_case x) ≡ is_own x
+own_folded x = own_is (in_lower_case x) ∙ ap own_of (folded_twice x) ∙ sym (own_is x)
 
-pub own_same : (x y : List ℕ) → folded x ≡ folded y → is_own x ≡ is_own y
+pub own_same : (x y : List ℕ) → in_lower_case x ≡ in_lower_case y → is_own x ≡ is_own y
 own_same x y e = own_is x ∙ ap own_of e ∙ sym (own_is y)
 
 -- names that a diagram may give
@@ -67,11 +67,11 @@ not_own x h = (or_parts (is_listed x) (is_own x) h).1
 pub apart_from_own : (x y : List ℕ) → is_own x ≡ false → is_own y ≡ true → bytes_eq x y ≡ false
 apart_from_own x y h k = bytes_apart x y (λ e. both_ways (is_own x) h (ap is_own e ∙ k))
 
-pub declared_not_own : (x y : List ℕ) → is_own (folded x) ≡ false → is_own y ≡ true → bytes_eq (folded x) y ≡ false
-declared_not_own x y h k = apart_from_own (folded x) y h k
+pub declared_not_own : (x y : List ℕ) → is_own (in_lower_case x) ≡ false → is_own y ≡ true → bytes_eq (in_lower_case x) y ≡ false
+declared_not_own x y h k = apart_from_own (in_lower_case x) y h k
 
-pub own_not_declared : (x y : List ℕ) → is_own (folded x) ≡ false → is_own y ≡ true → bytes_eq y (folded x) ≡ false
-own_not_declared x y h k = bytes_swapped y (folded x) ∙ declared_not_own x y h k
+pub own_not_declared : (x y : List ℕ) → is_own (in_lower_case x) ≡ false → is_own y ≡ true → bytes_eq y (in_lower_case x) ≡ false
+own_not_declared x y h k = bytes_swapped y (in_lower_case x) ∙ declared_not_own x y h k
 
 -- digits
 abbrev pub Digits : List ℕ → Type 0
@@ -159,66 +159,66 @@ suffix_same [] (y ∷ q) e = absurd (cc)
 suffix_same (x ∷ p) [] e = absurd (cc)
 suffix_same (x ∷ p) (y ∷ q) e = ap (drop 1) e
 
-folded_suffix : (p : List ℕ) → folded (suffix p) ≡ suffix (folded p)
+folded_suffix : (p : List ℕ) → in_lower_case (suffix p) ≡ suffix (in_lower_case p)
 folded_suffix [] = refl
 folded_suffix (c ∷ p) = refl
 
 lower_digit : (c : ℕ) → c ≤ 57 → to_ascii_lowercase c ≡ c
 lower_digit c h = grind (arith, nat_tests)
 
-folded_digits : (cs : List ℕ) → Digits cs → folded cs ≡ cs
+folded_digits : (cs : List ℕ) → Digits cs → in_lower_case cs ≡ cs
 folded_digits [] h = refl
 folded_digits (c ∷ cs) h = let here = lower_digit c h.1 in let rest = folded_digits cs h.2 in cc
 
 -- a number and a pin without case
-folded_tail : (n : ℕ) (p : List ℕ) → folded (decimal n ++ suffix p) ≡ decimal n ++ suffix (folded p)
+folded_tail : (n : ℕ) (p : List ℕ) → in_lower_case (decimal n ++ suffix p) ≡ decimal n ++ suffix (in_lower_case p)
 folded_tail n p = folded_append (decimal n) (suffix p) ∙ ap₂ (λ a b. a ++ b) (folded_digits (decimal n) (of_decimal n)) (folded_suffix p)
 
-same_tail : (i : ℕ) (p : List ℕ) (j : ℕ) (q : List ℕ) → i < 2 ^ 64 → folded (decimal i ++ suffix p) ≡ folded (decimal j ++ suffix q) → (i ≡ j) × (folded p ≡ folded q)
+same_tail : (i : ℕ) (p : List ℕ) (j : ℕ) (q : List ℕ) → i < 2 ^ 64 → in_lower_case (decimal i ++ suffix p) ≡ in_lower_case (decimal j ++ suffix q) → (i ≡ j) × (in_lower_case p ≡ in_lower_case q)
 same_tail i p j q small e =
-    let r = behind_digits (decimal i) (decimal j) (suffix (folded p)) (suffix (folded q)) (of_decimal i) (of_decimal j) (suffix_apart (folded p)) (suffix_apart (folded q)) (sym (folded_tail i p) ∙ e ∙ folded_tail j q) in
-    (same_decimal i j small r.0, suffix_same (folded p) (folded q) r.1)
+    let r = behind_digits (decimal i) (decimal j) (suffix (in_lower_case p)) (suffix (in_lower_case q)) (of_decimal i) (of_decimal j) (suffix_apart (in_lower_case p)) (suffix_apart (in_lower_case q)) (sym (folded_tail i p) ∙ e ∙ folded_tail j q) in
+    (same_decimal i j small r.0, suffix_same (in_lower_case p) (in_lower_case q) r.1)
 
-tail_of : (i : ℕ) (p : List ℕ) (j : ℕ) (q : List ℕ) → (i ≡ j) × (folded p ≡ folded q) → folded (decimal i ++ suffix p) ≡ folded (decimal j ++ suffix q)
+tail_of : (i : ℕ) (p : List ℕ) (j : ℕ) (q : List ℕ) → (i ≡ j) × (in_lower_case p ≡ in_lower_case q) → in_lower_case (decimal i ++ suffix p) ≡ in_lower_case (decimal j ++ suffix q)
 tail_of i p j q h = folded_tail i p ∙ ap₂ (λ n r. decimal n ++ suffix r) h.0 h.1 ∙ sym (folded_tail j q)
 
-tails : (i : ℕ) (p : List ℕ) (j : ℕ) (q : List ℕ) → i < 2 ^ 64 → bytes_eq (folded (decimal i ++ suffix p)) (folded (decimal j ++ suffix q)) ≡ (nat_eq i j && bytes_eq (folded p) (folded q))
+tails : (i : ℕ) (p : List ℕ) (j : ℕ) (q : List ℕ) → i < 2 ^ 64 → bytes_eq (in_lower_case (decimal i ++ suffix p)) (in_lower_case (decimal j ++ suffix q)) ≡ (nat_eq i j && bytes_eq (in_lower_case p) (in_lower_case q))
 tails i p j q small =
-    same_from_decides {P = (i ≡ j) × (folded p ≡ folded q)} _ _
+    same_from_decides {P = (i ≡ j) × (in_lower_case p ≡ in_lower_case q)} _ _
     ((λ h. same_tail i p j q small (bytes_same _ _ h)), (λ h. same_bytes _ _ (tail_of i p j q h)))
-    (Decides-and (nat_eq i j) (bytes_eq (folded p) (folded q)) (Decides-eqb i j) (bytes_eq-Decides (folded p) (folded q)))
+    (Decides-and (nat_eq i j) (bytes_eq (in_lower_case p) (in_lower_case q)) (Decides-eqb i j) (bytes_eq-Decides (in_lower_case p) (in_lower_case q)))
 
 -- the compiler's own names
-pub wire_own : (id : ℕ) (pin : List ℕ) → is_own (folded (wire_name id pin)) ≡ true
+pub wire_own : (id : ℕ) (pin : List ℕ) → is_own (in_lower_case (wire_name id pin)) ≡ true
 wire_own id pin = refl
 
-pub memory_own : (k : Memory) → is_own (folded (memory_name k)) ≡ true
+pub memory_own : (k : Memory) → is_own (in_lower_case (memory_name k)) ≡ true
 memory_own (AtEdge id) = refl
 memory_own (AtOutput id pin) = refl
 
-pub counter_own : is_own (folded counter_name) ≡ true
+pub counter_own : is_own (in_lower_case counter_name) ≡ true
 counter_own = refl
 
 -- a wire's name, of which one has a small number
-pub same_wires : (i : ℕ) (p : List ℕ) (j : ℕ) (q : List ℕ) → i < 2 ^ 64 → bytes_eq (folded (wire_name i p)) (folded (wire_name j q)) ≡ (nat_eq i j && bytes_eq (folded p) (folded q))
+pub same_wires : (i : ℕ) (p : List ℕ) (j : ℕ) (q : List ℕ) → i < 2 ^ 64 → bytes_eq (in_lower_case (wire_name i p)) (in_lower_case (wire_name j q)) ≡ (nat_eq i j && bytes_eq (in_lower_case p) (in_lower_case q))
 same_wires i p j q small = tails i p j q small
 
-pub same_wires_to : (i : ℕ) (p : List ℕ) (j : ℕ) (q : List ℕ) → j < 2 ^ 64 → bytes_eq (folded (wire_name i p)) (folded (wire_name j q)) ≡ (nat_eq i j && bytes_eq (folded p) (folded q))
+pub same_wires_to : (i : ℕ) (p : List ℕ) (j : ℕ) (q : List ℕ) → j < 2 ^ 64 → bytes_eq (in_lower_case (wire_name i p)) (in_lower_case (wire_name j q)) ≡ (nat_eq i j && bytes_eq (in_lower_case p) (in_lower_case q))
 same_wires_to i p j q small =
-    bytes_swapped (folded (wire_name i p)) (folded (wire_name j q)) ∙ same_wires j q i p small ∙ ap₂ (λ a b. a && b) (numbers_swapped j i) (bytes_swapped (folded q) (folded p))
+    bytes_swapped (in_lower_case (wire_name i p)) (in_lower_case (wire_name j q)) ∙ same_wires j q i p small ∙ ap₂ (λ a b. a && b) (numbers_swapped j i) (bytes_swapped (in_lower_case q) (in_lower_case p))
 
 -- a memory whose number is small
 abbrev pub IsSmall : Memory → Type 0
 IsSmall (AtEdge id) = id < 2 ^ 64
 IsSmall (AtOutput id pin) = id < 2 ^ 64
 
-decimals : (i j : ℕ) → i < 2 ^ 64 → bytes_eq (folded (decimal i)) (folded (decimal j)) ≡ nat_eq i j
+decimals : (i j : ℕ) → i < 2 ^ 64 → bytes_eq (in_lower_case (decimal i)) (in_lower_case (decimal j)) ≡ nat_eq i j
 decimals i j small =
     same_from_decides {P = i ≡ j} _ _
-    ((λ h. same_decimal i j small (sym (folded_digits (decimal i) (of_decimal i)) ∙ bytes_same _ _ h ∙ folded_digits (decimal j) (of_decimal j))), (λ e. same_bytes _ _ (ap (λ n. folded (decimal n)) e)))
+    ((λ h. same_decimal i j small (sym (folded_digits (decimal i) (of_decimal i)) ∙ bytes_same _ _ h ∙ folded_digits (decimal j) (of_decimal j))), (λ e. same_bytes _ _ (ap (λ n. in_lower_case (decimal n)) e)))
     (Decides-eqb i j)
 
-pub same_memories : (j k : Memory) → IsSmall j → bytes_eq (folded (memory_name j)) (folded (memory_name k)) ≡ same_memory j k
+pub same_memories : (j k : Memory) → IsSmall j → bytes_eq (in_lower_case (memory_name j)) (in_lower_case (memory_name k)) ≡ same_memory j k
 same_memories (AtEdge i) (AtEdge j) small = decimals i j small
 same_memories (AtEdge i) (AtOutput j q) small = refl
 same_memories (AtOutput i p) (AtEdge j) small = refl
@@ -228,34 +228,34 @@ memories_swapped : (j k : Memory) → same_memory j k ≡ same_memory k j
 memories_swapped (AtEdge i) (AtEdge j) = numbers_swapped i j
 memories_swapped (AtEdge i) (AtOutput j q) = refl
 memories_swapped (AtOutput i p) (AtEdge j) = refl
-memories_swapped (AtOutput i p) (AtOutput j q) = ap₂ (λ a b. a && b) (numbers_swapped i j) (bytes_swapped (folded p) (folded q))
+memories_swapped (AtOutput i p) (AtOutput j q) = ap₂ (λ a b. a && b) (numbers_swapped i j) (bytes_swapped (in_lower_case p) (in_lower_case q))
 
-pub same_memories_to : (j k : Memory) → IsSmall k → bytes_eq (folded (memory_name j)) (folded (memory_name k)) ≡ same_memory j k
-same_memories_to j k small = bytes_swapped (folded (memory_name j)) (folded (memory_name k)) ∙ same_memories k j small ∙ memories_swapped k j
+pub same_memories_to : (j k : Memory) → IsSmall k → bytes_eq (in_lower_case (memory_name j)) (in_lower_case (memory_name k)) ≡ same_memory j k
+same_memories_to j k small = bytes_swapped (in_lower_case (memory_name j)) (in_lower_case (memory_name k)) ∙ same_memories k j small ∙ memories_swapped k j
 
 -- names of different uses
-pub wire_not_counter : (id : ℕ) (pin : List ℕ) → bytes_eq (folded (wire_name id pin)) (folded counter_name) ≡ false
+pub wire_not_counter : (id : ℕ) (pin : List ℕ) → bytes_eq (in_lower_case (wire_name id pin)) (in_lower_case counter_name) ≡ false
 wire_not_counter id pin = refl
 
-pub counter_not_wire : (id : ℕ) (pin : List ℕ) → bytes_eq (folded counter_name) (folded (wire_name id pin)) ≡ false
+pub counter_not_wire : (id : ℕ) (pin : List ℕ) → bytes_eq (in_lower_case counter_name) (in_lower_case (wire_name id pin)) ≡ false
 counter_not_wire id pin = refl
 
-pub wire_not_memory : (id : ℕ) (pin : List ℕ) (k : Memory) → bytes_eq (folded (wire_name id pin)) (folded (memory_name k)) ≡ false
+pub wire_not_memory : (id : ℕ) (pin : List ℕ) (k : Memory) → bytes_eq (in_lower_case (wire_name id pin)) (in_lower_case (memory_name k)) ≡ false
 wire_not_memory id pin (AtEdge j) = refl
 wire_not_memory id pin (AtOutput j q) = refl
 
-pub memory_not_wire : (k : Memory) (id : ℕ) (pin : List ℕ) → bytes_eq (folded (memory_name k)) (folded (wire_name id pin)) ≡ false
+pub memory_not_wire : (k : Memory) (id : ℕ) (pin : List ℕ) → bytes_eq (in_lower_case (memory_name k)) (in_lower_case (wire_name id pin)) ≡ false
 memory_not_wire (AtEdge j) id pin = refl
 memory_not_wire (AtOutput j q) id pin = refl
 
-pub memory_not_counter : (k : Memory) → bytes_eq (folded (memory_name k)) (folded counter_name) ≡ false
+pub memory_not_counter : (k : Memory) → bytes_eq (in_lower_case (memory_name k)) (in_lower_case counter_name) ≡ false
 memory_not_counter (AtEdge j) = refl
 memory_not_counter (AtOutput j q) = refl
 
-pub counter_not_memory : (k : Memory) → bytes_eq (folded counter_name) (folded (memory_name k)) ≡ false
+pub counter_not_memory : (k : Memory) → bytes_eq (in_lower_case counter_name) (in_lower_case (memory_name k)) ≡ false
 counter_not_memory (AtEdge j) = refl
 counter_not_memory (AtOutput j q) = refl
 
 -- a name that a declaration may have
-pub declared_name : (x : List ℕ) → is_reserved x ≡ false → is_own (folded x) ≡ false
+pub declared_name : (x : List ℕ) → is_reserved x ≡ false → is_own (in_lower_case x) ≡ false
 declared_name x h = own_folded x ∙ not_own x h

@@ -20,7 +20,7 @@ use Rattle.plcx_meaning.specs.Functions.{group_of, all_suit, can_apply, out_type
 use Rattle.plcx_meaning.specs.Execute.{function_of}
 use Rattle.plcx_meaning.specs.Templates.{both, chain, compared, neighbours, negation, function_text}
 use Rattle.plcx_meaning.specs.Typed.{is_operator, result_type, expression_types, AreInRange}
-use Rattle.plcx_meaning.specs.Ready.{HasType}
+use Rattle.plcx_meaning.specs.Ready.{ExpressionIsReady}
 
 -- an operator on one type that its function takes
 two_types : (op : Operator) (t : Ty) → takes (function_of op) t ≡ true → result_type (function_of op) (t ∷ t ∷ []) ≡ Some (out_type (function_of op) t)
@@ -45,18 +45,18 @@ module _ (c : Scope) where
   HaveTypes [] [] = Unit {0}
   HaveTypes [] (t ∷ ts) = ⊥
   HaveTypes (e ∷ es) [] = ⊥
-  HaveTypes (e ∷ es) (t ∷ ts) = HasType c e t × HaveTypes es ts
+  HaveTypes (e ∷ es) (t ∷ ts) = ExpressionIsReady c e t × HaveTypes es ts
 
-  pub typed_as : (e : Expression) (t u : Ty) → t ≡ u → HasType c e t → HasType c e u
-  typed_as e t u same h = subst (HasType c e) same h
+  pub typed_as : (e : Expression) (t u : Ty) → t ≡ u → ExpressionIsReady c e t → ExpressionIsReady c e u
+  typed_as e t u same h = subst (ExpressionIsReady c e) same h
 
-  pub binary_has : (op : Operator) (t : Ty) (a b : Expression) → takes (function_of op) t ≡ true → HasType c a t → HasType c b t → HasType c (Binary op a b) (out_type (function_of op) t)
+  pub binary_has : (op : Operator) (t : Ty) (a b : Expression) → takes (function_of op) t ≡ true → ExpressionIsReady c a t → ExpressionIsReady c b t → ExpressionIsReady c (Binary op a b) (out_type (function_of op) t)
   binary_has op t a b h ha hb = record { typed = rw (ha.typed, hb.typed) (two_types op t h); range = (ha.range, hb.range) }
 
-  pub and_has : (a b : Expression) → HasType c a ty.Bool → HasType c b ty.Bool → HasType c (both a b) ty.Bool
+  pub and_has : (a b : Expression) → ExpressionIsReady c a ty.Bool → ExpressionIsReady c b ty.Bool → ExpressionIsReady c (both a b) ty.Bool
   and_has a b ha hb = binary_has And ty.Bool a b refl ha hb
 
-  pub not_has : (a : Expression) → HasType c a ty.Bool → HasType c (Not a) ty.Bool
+  pub not_has : (a : Expression) → ExpressionIsReady c a ty.Bool → ExpressionIsReady c (Not a) ty.Bool
   not_has a h = record { typed = rw (h.typed) refl; range = h.range }
 
   all_types : (es : List Expression) (types : List Ty) → HaveTypes es types → expression_types c (expressions es) ≡ Some types
@@ -72,11 +72,11 @@ module _ (c : Scope) where
   all_in_range (e ∷ es) (t ∷ ts) h = (h.0.range, all_in_range es ts h.1)
 
   by_name : (g : Func) (t : Ty) (es : List Expression) (types : List Ty) → HaveTypes es types → is_function g ≡ true → is_operator g ≡ false → group_of g types ≡ Some t → can_apply g t types ≡ true
-      → HasType c (Apply (function_name g) (expressions es)) (out_type g t)
+      → ExpressionIsReady c (Apply (function_name g) (expressions es)) (out_type g t)
   by_name g t es types k is plain group applies = record { typed = rw (all_types es types k, found_again g is, plain, group, applies); range = all_in_range es types k }
 
   abbrev AllHave : Ty → List Expression → Type 0
-  AllHave t es = Each (λ e. HasType c e t) es
+  AllHave t es = Each (λ e. ExpressionIsReady c e t) es
 
   -- where each input is of the group
   all_of : (g : Func) (t : Ty) → ((i : ℕ) → input_class g i ≡ class.Group) → (i : ℕ) (es : List Expression) (types : List Ty) → HaveTypes es types → all_suit g t i types ≡ true → AllHave t es
@@ -88,34 +88,34 @@ module _ (c : Scope) where
       let one : same_ty t u ≡ true = ap (λ w. suits w t u) (sym (grouped i)) ∙ parts.0 in
       (typed_as e u t (sym (same_is t u one)) k.0, all_of g t grouped (i + 1) es us k.1 parts.1)
 
-  joined : (op : Operator) (t : Ty) → takes (function_of op) t ≡ true → out_type (function_of op) t ≡ t → (e : Expression) (es : List Expression) → HasType c e t → AllHave t es → HasType c (fold (Binary op) e es) t
+  joined : (op : Operator) (t : Ty) → takes (function_of op) t ≡ true → out_type (function_of op) t ≡ t → (e : Expression) (es : List Expression) → ExpressionIsReady c e t → AllHave t es → ExpressionIsReady c (fold (Binary op) e es) t
   joined op t h same e [] he all = he
   joined op t h same e (x ∷ es) he all = joined op t h same (Binary op e x) es (typed_as (Binary op e x) (out_type (function_of op) t) t same (binary_has op t e x h he all.0)) all.1
 
-  chains : (op : Operator) (t : Ty) → takes (function_of op) t ≡ true → out_type (function_of op) t ≡ t → (es : List Expression) → 1 ≤ length es → AllHave t es → HasType c (chain op es) t
+  chains : (op : Operator) (t : Ty) → takes (function_of op) t ≡ true → out_type (function_of op) t ≡ t → (es : List Expression) → 1 ≤ length es → AllHave t es → ExpressionIsReady c (chain op es) t
   chains op t h same [] some all = absurd (omega arith)
   chains op t h same (e ∷ es) some all = joined op t h same e es all.0 all.1
 
-  compared_has : (op : Operator) (t : Ty) → takes (function_of op) t ≡ true → out_type (function_of op) t ≡ ty.Bool → (so_far e : Expression) (es : List Expression) → HasType c so_far ty.Bool → HasType c e t → AllHave t es
-      → HasType c (compared op so_far e es) ty.Bool
+  compared_has : (op : Operator) (t : Ty) → takes (function_of op) t ≡ true → out_type (function_of op) t ≡ ty.Bool → (so_far e : Expression) (es : List Expression) → ExpressionIsReady c so_far ty.Bool → ExpressionIsReady c e t → AllHave t es
+      → ExpressionIsReady c (compared op so_far e es) ty.Bool
   compared_has op t h same so_far e [] hs he all = hs
   compared_has op t h same so_far e (x ∷ es) hs he all =
       compared_has op t h same (both so_far (Binary op e x)) x es (and_has so_far (Binary op e x) hs (typed_as (Binary op e x) (out_type (function_of op) t) ty.Bool same (binary_has op t e x h he all.0))) all.0 all.1
 
-  compares : (op : Operator) (t : Ty) → takes (function_of op) t ≡ true → out_type (function_of op) t ≡ ty.Bool → (es : List Expression) → 2 ≤ length es → AllHave t es → HasType c (neighbours op es) ty.Bool
+  compares : (op : Operator) (t : Ty) → takes (function_of op) t ≡ true → out_type (function_of op) t ≡ ty.Bool → (es : List Expression) → 2 ≤ length es → AllHave t es → ExpressionIsReady c (neighbours op es) ty.Bool
   compares op t h same [] two all = absurd (omega arith)
   compares op t h same (e ∷ []) two all = absurd (omega arith)
   compares op t h same (e ∷ x ∷ es) two all =
       compared_has op t h same (Binary op e x) x es (typed_as (Binary op e x) (out_type (function_of op) t) ty.Bool same (binary_has op t e x h all.0 all.1.0)) all.1.0 all.1.1
 
   -- exactly two inputs
-  pairs : (op : Operator) (t : Ty) → takes (function_of op) t ≡ true → (es : List Expression) → length es ≡ 2 → AllHave t es → HasType c (chain op es) (out_type (function_of op) t)
+  pairs : (op : Operator) (t : Ty) → takes (function_of op) t ≡ true → (es : List Expression) → length es ≡ 2 → AllHave t es → ExpressionIsReady c (chain op es) (out_type (function_of op) t)
   pairs op t h [] two all = absurd (omega arith)
   pairs op t h (e ∷ []) two all = absurd (omega arith)
   pairs op t h (e ∷ x ∷ []) two all = binary_has op t e x h all.0 all.1.0
   pairs op t h (e ∷ x ∷ y ∷ es) two all = absurd (omega arith)
 
-  negates : (t : Ty) (es : List Expression) → length es ≡ 1 → takes func.Not t ≡ true → AllHave t es → HasType c (negation es) t
+  negates : (t : Ty) (es : List Expression) → length es ≡ 1 → takes func.Not t ≡ true → AllHave t es → ExpressionIsReady c (negation es) t
   negates t [] one h all = absurd (omega arith)
   negates t (e ∷ []) one h all = record { typed = rw (all.0.typed, h, same_refl t) refl; range = all.0.range }
   negates t (e ∷ x ∷ es) one h all = absurd (omega arith)
@@ -148,7 +148,7 @@ module _ (c : Scope) where
     some : (n : ℕ) → 2 ≤ n → 1 ≤ n
     some n h = omega arith
 
-    pub function_has : (g : Func) → is_function g ≡ true → group_of g types ≡ Some t → can_apply g t types ≡ true → HasType c (function_text g es) (out_type g t)
+    pub function_has : (g : Func) → is_function g ≡ true → group_of g types ≡ Some t → can_apply g t types ≡ true → ExpressionIsReady c (function_text g es) (out_type g t)
     function_has func.Add is group h = chains Plus t (taken func.Add h) refl es (some _ (least func.Add h)) (grouped func.Add (λ i. refl) h)
     function_has func.Mul is group h = chains Times t (taken func.Mul h) refl es (some _ (least func.Mul h)) (grouped func.Mul (λ i. refl) h)
     function_has func.Sub is group h = pairs Minus t (taken func.Sub h) es (exactly 2 (least func.Sub h) (most func.Sub h)) (grouped func.Sub (λ i. refl) h)

@@ -4,14 +4,14 @@ use Rattle.std.specs.Prelude.{is_some}
 use Rattle.std.specs.List.{Contains}
 use Rattle.plcx_types.specs.declared.ty.Ty.{Ty}
 use Rattle.plcx_types.specs.declared.ty.Ty.TheVariants as ty
-use Rattle.plcx_types.specs.Name.{folded}
+use Rattle.plcx_types.specs.Name.{in_lower_case}
 use Rattle.plcx_meaning.specs.Base.{Memory, AtEdge, AtOutput, Each, are_distinct, top}
 use Rattle.plcx_meaning.specs.Tree.{Expression, Name, Member, Not, Argument, Statement, Assign, If, statements}
 use Rattle.plcx_meaning.specs.Tree as tree
 use Rattle.plcx_meaning.specs.Layout.{Variable, variables_of}
 use Rattle.plcx_meaning.specs.Functions.{out_type}
-use Rattle.plcx_meaning.specs.Diagram.{Link, Operand, Storing, Stored, Inverted, Set, Reset, Contacting, Open, Closed, RisingContact, FallingContact, Coiling, By, RisingCoil, FallingCoil, Enable, has_eno, eno_negated, Input, InOut, Output', Kind, Still, In, Out, Contact, Coil, Pass, Label, Jump, Return, Function, Call, Port, port, eno_ports, output_ports, ports, has_edge, Element, Pou, Project}
-use Rattle.plcx_meaning.specs.Execute.{Temporary, Kept, place_of, formal}
+use Rattle.plcx_meaning.specs.Diagram.{Link, Operand, Storing, Stored, Inverted, Set, Reset, Contacting, Open, Closed, RisingContact, FallingContact, Coiling, By, RisingCoil, FallingCoil, Enable, has_eno, eno_negated, InputPin, InOutPin, OutputPin, ElementKind, Still, In, Out, Contact, Coil, Pass, Label, Jump, Return, Function, Call, Port, port, eno_ports, output_ports, ports, has_edge, DiagramElement, Pou, Project}
+use Rattle.plcx_meaning.specs.Execute.{Temporary, Kept, referent_of, formal}
 use Rattle.plcx_meaning.specs.Templates.{number, wire_name, memory_name, wire, memory, link_text, operand_text, contact_text, contact_edge, coil_text, function_text, eno_text, enabled, turned_if, out_default, input_text, in_out_text, output_text, kind_text, feed_text, element_text, elements_text}
 use Rattle.plcx_meaning.specs.Typed.{part_in}
 use Rattle.plcx_meaning.specs.Ready.{ValueIsReady}
@@ -31,18 +31,18 @@ has_edge_of RisingContact = true
 has_edge_of FallingContact = true
 
 -- the names of a call's arguments
-formal_names : (taken : List Input) (bound : List InOut)
-    → map (λ (a : Argument). folded a.formal) (map input_text taken ++ map in_out_text bound) ≡ map (λ (i : Input). folded i.name) taken ++ map (λ (i : InOut). folded i.name) bound
+formal_names : (taken : List InputPin) (bound : List InOutPin)
+    → map (λ (a : Argument). in_lower_case a.formal) (map input_text taken ++ map in_out_text bound) ≡ map (λ (i : InputPin). in_lower_case i.name) taken ++ map (λ (i : InOutPin). in_lower_case i.name) bound
 formal_names [] [] = refl
-formal_names [] (i ∷ is) = ap (λ ns. folded i.name ∷ ns) (formal_names [] is)
-formal_names (i ∷ is) bound = ap (λ ns. folded i.name ∷ ns) (formal_names is bound)
+formal_names [] (i ∷ is) = ap (λ ns. in_lower_case i.name ∷ ns) (formal_names [] is)
+formal_names (i ∷ is) bound = ap (λ ns. in_lower_case i.name ∷ ns) (formal_names is bound)
 
 module _ (project : Project) (p : Pou) (fits : ProjectFits project) (there : Contains project p) where
   abbrev ReadyOf : Statement → Type 0
   ReadyOf = Ready project p fits there
 
   abbrev Wired : ℕ → Port → Type 0
-  Wired id o = place_of (here project p top) (wire_name id o.pin) ≡ Temporary o.ty
+  Wired id o = referent_of (here project p top) (wire_name id o.pin) ≡ Temporary o.ty
 
   contact_has : (how : Contacting) (l v m : Expression) → Typed project p fits there l ty.Bool → Typed project p fits there v ty.Bool → (has_edge_of how ≡ true → Typed project p fits there m ty.Bool)
       → Typed project p fits there (contact_text how l v m) ty.Bool
@@ -100,13 +100,13 @@ module _ (project : Project) (p : Pou) (fits : ProjectFits project) (there : Con
 
   -- the call of a block
   module _ (done : List (ℕ × Port)) (instance : List ℕ) where
-    inputs_ready : (within : List Variable) (ins : List Input) → Each (InputFits (at project p fits there done) within) ins → Each (InputAsked (here project p top) done instance) ins
+    inputs_ready : (within : List Variable) (ins : List InputPin) → Each (InputFits (at project p fits there done) within) ins → Each (InputAsked (here project p top) done instance) ins
         → Each (λ (a : Argument). ValueIsReady (scope project p fits there) a.value (formal (scope project p fits there).world (part_in (scope project p fits there) instance a.formal))) (map input_text ins)
     inputs_ready within [] h a = tt
     inputs_ready within (i ∷ is) h a =
         (subst (ValueIsReady (scope project p fits there) (link_text i.link)) (sym a.0.formal) (link_has project p fits there done i.link h.0.1 a.0.link), inputs_ready within is h.1 a.1)
 
-    in_outs_ready : (within : List Variable) (ins : List InOut) → Each (InOutFits (at project p fits there done) within) ins → Each (InOutAsked (here project p top) (variables_of p.lists) instance) ins
+    in_outs_ready : (within : List Variable) (ins : List InOutPin) → Each (InOutFits (at project p fits there done) within) ins → Each (InOutAsked (here project p top) (variables_of p.lists) instance) ins
         → Each (λ (a : Argument). ValueIsReady (scope project p fits there) a.value (formal (scope project p fits there).world (part_in (scope project p fits there) instance a.formal))) (map in_out_text ins)
     in_outs_ready within [] h a = tt
     in_outs_ready within (i ∷ is) h a = (
@@ -115,7 +115,7 @@ module _ (project : Project) (p : Pou) (fits : ProjectFits project) (there : Con
       in_outs_ready within is h.1 a.1,
     )
 
-    call_ready : (ins : List Input) (bound : List InOut) (outs : List Output') → CallFits (at project p fits there done) instance ins bound outs → CallAsked (here project p top) (variables_of p.lists) done instance ins bound outs
+    call_ready : (ins : List InputPin) (bound : List InOutPin) (outs : List OutputPin) → CallFits (at project p fits there done) instance ins bound outs → CallAsked (here project p top) (variables_of p.lists) done instance ins bound outs
         → ReadyOf (tree.Call instance (map input_text ins ++ map in_out_text bound))
     call_ready ins bound outs h a = record {
       type = a.variable.ty;
@@ -125,7 +125,7 @@ module _ (project : Project) (p : Pou) (fits : ProjectFits project) (there : Con
       bound = a.all;
     }
 
-    outputs_ready : (id : ℕ) (outs : List Output') → Each (OutputAsked (here project p top) instance) outs → Each (Wired id) (output_ports outs) → Each ReadyOf (map (output_text id instance) outs)
+    outputs_ready : (id : ℕ) (outs : List OutputPin) → Each (OutputAsked (here project p top) instance) outs → Each (Wired id) (output_ports outs) → Each ReadyOf (map (output_text id instance) outs)
     outputs_ready id [] a w = tt
     outputs_ready id (o ∷ os) a w = (
       (
@@ -138,7 +138,7 @@ module _ (project : Project) (p : Pou) (fits : ProjectFits project) (there : Con
     )
 
   module _ (done : List (ℕ × Port)) where
-    coil_ready : (how : Coiling) (x : List ℕ) (id : ℕ) (link : Link) → Target project p fits there x ty.Bool → Typed project p fits there (wire id []) ty.Bool → (has_edge (Coil how x link) ≡ true → place_of (here project p top) (memory_name (AtEdge id)) ≡ Kept ty.Bool)
+    coil_ready : (how : Coiling) (x : List ℕ) (id : ℕ) (link : Link) → Target project p fits there x ty.Bool → Typed project p fits there (wire id []) ty.Bool → (has_edge (Coil how x link) ≡ true → referent_of (here project p top) (memory_name (AtEdge id)) ≡ Kept ty.Bool)
         → Each ReadyOf (coil_text how x (AtEdge id) (wire id []))
     coil_ready (By how) x id link target w edge = (store_ready project p fits there done how x (wire id []) ty.Bool (truths how) target w, tt)
       where
@@ -156,7 +156,7 @@ module _ (project : Project) (p : Pou) (fits : ProjectFits project) (there : Con
         let c = scope project p fits there in
         ((ty.Bool, target, and_has c (Not (wire id [])) (memory (AtEdge id)) (not_has c (wire id []) w) m), ((ty.Bool, memory_target project p fits there (AtEdge id) ty.Bool (edge refl), w), tt))
 
-    kind_ready : (k : Kind) (id : ℕ) → Each (Wired id) (ports k) → (has_edge k ≡ true → place_of (here project p top) (memory_name (AtEdge id)) ≡ Kept ty.Bool)
+    kind_ready : (k : ElementKind) (id : ℕ) → Each (Wired id) (ports k) → (has_edge k ≡ true → referent_of (here project p top) (memory_name (AtEdge id)) ≡ Kept ty.Bool)
         → KindFits (at project p fits there done) k → KindAsked (here project p top) (variables_of p.lists) done k → Each ReadyOf (kind_text k id)
     kind_ready Still id w edge h a = tt
     kind_ready (In t negated operand) id w edge h a =
@@ -196,14 +196,14 @@ module _ (project : Project) (p : Pou) (fits : ProjectFits project) (there : Con
           each_append ReadyOf (map (output_text id instance) outs) _ (outputs_ready done instance id outs a.0.outputs all.1) (eno_turned done id enable en),
         )
 
-    feeds_ready : (id : ℕ) (k : Kind) (fed : List Port) → Each (Wired id) (ports k) → Each (λ (o : Port). (place_of (here project p top) (memory_name (AtOutput id o.pin)) ≡ Kept o.ty) × Contains (ports k) o) fed → Each ReadyOf (map (feed_text id) fed)
+    feeds_ready : (id : ℕ) (k : ElementKind) (fed : List Port) → Each (Wired id) (ports k) → Each (λ (o : Port). (referent_of (here project p top) (memory_name (AtOutput id o.pin)) ≡ Kept o.ty) × Contains (ports k) o) fed → Each ReadyOf (map (feed_text id) fed)
     feeds_ready id k [] w h = tt
     feeds_ready id k (o ∷ fed) w h =
         ((o.ty, memory_target project p fits there (AtOutput id o.pin) o.ty h.0.0, wire_has project p fits there id o.pin o.ty (each_at (Wired id) (ports k) o w h.0.1)), feeds_ready id k fed w h.1)
 
-    element_ready : (e : Element) → OwnAsked (here project p top) e → KindFits (at project p fits there done) e.kind → KindAsked (here project p top) (variables_of p.lists) done e.kind → Each ReadyOf (element_text e)
+    element_ready : (e : DiagramElement) → OwnAsked (here project p top) e → KindFits (at project p fits there done) e.kind → KindAsked (here project p top) (variables_of p.lists) done e.kind → Each ReadyOf (element_text e)
     element_ready e own h a = each_append ReadyOf (kind_text e.kind e.id) (map (feed_text e.id) e.fed) (kind_ready e.kind e.id own.wires own.edge h a) (feeds_ready e.id e.kind e.fed own.wires own.fed)
 
-  pub elements_ready : (done : List (ℕ × Port)) (es : List Element) → ElementsFit project p done es → ElementsAsked (here project p top) (variables_of p.lists) done es → Each ReadyOf (elements_text es)
+  pub elements_ready : (done : List (ℕ × Port)) (es : List DiagramElement) → ElementsFit project p done es → ElementsAsked (here project p top) (variables_of p.lists) done es → Each ReadyOf (elements_text es)
   elements_ready done [] h a = tt
   elements_ready done (e ∷ es) h a = each_append ReadyOf (element_text e) (elements_text es) (element_ready done e a.0 h.2 a.2) (elements_ready (fixed_by e ++ done) es h.3 a.3)

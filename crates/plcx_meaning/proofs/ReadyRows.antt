@@ -7,12 +7,12 @@ use Rattle.std.specs.Prelude.{pos, codes}
 use Rattle.plcx_types.specs.declared.ty.Ty.{Ty}
 use Rattle.plcx_types.specs.declared.ty.Ty.TheVariants as ty
 use Rattle.plcx_types.proofs.TypeTable.{within_range}
-use Rattle.plcx_types.specs.Reserved.{is_listed}
+use Rattle.plcx_types.specs.Reserved.{is_conversion, is_listed}
 use Rattle.plcx_types.specs.TypeName.{type_named}
 use Rattle.plcx_meaning.specs.Layout.{Variable, variables_of}
 use Rattle.plcx_meaning.specs.Typed.{variable_in}
 use Rattle.plcx_meaning.specs.Execute.{scope_of}
-use Rattle.plcx_meaning.specs.Ready.{VariableIsReady, is_known, PouIsReady, IsReady, Nests, StatementIsReady}
+use Rattle.plcx_meaning.specs.Ready.{VariableIsReady, unit_knows, PouIsReady, IsReady, TextNests, StatementIsReady}
 use Rattle.plcx_meaning.specs.ReadyExamples.{counting, argument, int, with_body, unit_with, ready_unit, unbound, bound_to_number, bound_to_temporary, undeclared, undeclared_target, mistyped, no_condition, operator_called, input_read, equal_labels, large_label, formal_twice, formal_unknown, out_of_range, declared_twice, listed_name, wrong_initial, stored_constant, instance_as_input, program_in_out, unknown_type, stored_input, within_itself}
 
 -- the first statement of the program
@@ -88,14 +88,14 @@ unknown_type_not h = let e = h.pous.1.0.variables.0.known in absurd (cc)
 pub stored_input_not : IsReady stored_input → ⊥
 stored_input_not h = let v = h.pous.0.body.0.1 in let found = v.found in let passes = v.passes in absurd (cc)
 
-endless : (n : ℕ) → Nests n (within_itself ∷ []) within_itself → ⊥
+endless : (n : ℕ) → TextNests n (within_itself ∷ []) within_itself → ⊥
 endless zero h = let e = h.0 in absurd (cc)
 endless (suc n) h = endless n (h.0 within_itself refl)
 
 pub within_itself_not : IsReady (within_itself ∷ []) → ⊥
 within_itself_not h = endless 16 h.pous.0.nests
 
-plain_variable : (unit : List PouText) (kind : PouKind) (v : Variable) → is_listed v.name ≡ false → is_known unit v.ty ≡ true → v.initial ≡ None → (type_named v.ty ≡ None → (v.class ≡ Local) × (v.mark ≢ Constant)) → (v.class ≡ InOut → kind ≢ Program) → VariableIsReady unit kind v
+plain_variable : (unit : List PouText) (kind : PouKind) (v : Variable) → is_listed v.name ≡ false → unit_knows unit v.ty ≡ true → v.initial ≡ None → (type_named v.ty ≡ None → (v.class ≡ Local) × (v.mark ≢ Constant)) → (v.class ≡ InOut → kind ≢ Program) → VariableIsReady unit kind v
 plain_variable unit kind v free known none instance in_out = record { free = free; known = known; initial = λ value e. absurd (cc); instance = instance; in_out = in_out }
 
 -- and the text that is
@@ -109,6 +109,7 @@ main = with_body
     ∷ [])
 
 counting_ready : PouIsReady ready_unit counting
+unfolding is_conversion
 counting_ready = record {
   free = refl;
   distinct = refl;
@@ -119,6 +120,7 @@ counting_ready = record {
 }
 
 main_variables : Each (VariableIsReady ready_unit Program) (variables_of main.blocks)
+unfolding is_conversion
 main_variables = (
   plain_variable ready_unit Program _ refl refl refl (λ e. absurd (cc)) (λ e k. cc),
   (
@@ -136,7 +138,7 @@ main_variables = (
   ),
 )
 
-main_nests : Nests 16 ready_unit main
+main_nests : TextNests 16 ready_unit main
 main_nests = (
   (λ q e. absurd (cc)),
   (
@@ -144,7 +146,7 @@ main_nests = (
     (
       (λ q e. absurd (cc)),
       (
-        (λ q e. let same : counting ≡ q = cc in subst (Nests 15 ready_unit) same ((λ r k. absurd (cc)), tt)),
+        (λ q e. let same : counting ≡ q = cc in subst (TextNests 15 ready_unit) same ((λ r k. absurd (cc)), tt)),
         (
           (λ q e. absurd (cc)),
           ((λ q e. absurd (cc)), tt),
@@ -173,6 +175,7 @@ main_body = (
 )
 
 main_ready : PouIsReady ready_unit main
+unfolding is_conversion
 main_ready = record { free = refl; distinct = refl; variables = main_variables; body = main_body; nests = main_nests; small = omega arith }
 
 pub is_ready : IsReady ready_unit

@@ -9,10 +9,10 @@ use Rattle.plcx_meaning.specs.Base.{Memory, AtOutput, Each, top}
 use Rattle.plcx_meaning.specs.Tree.{Expression, Not, Binary, Or, Statement}
 use Rattle.plcx_meaning.specs.Layout.{variables_of}
 use Rattle.plcx_meaning.specs.Diagram.{Source, Rail, Literal, Wire, Back, Link, Storing, Stored, Inverted, Set, Reset, Port, Pou, Project}
-use Rattle.plcx_meaning.specs.Execute.{Temporary, Kept, place_of}
+use Rattle.plcx_meaning.specs.Execute.{Temporary, Kept, referent_of}
 use Rattle.plcx_meaning.specs.Templates.{wire_name, memory_name, number, truth, not_if, wire, memory, source_text, or_text, link_text, store_text}
-use Rattle.plcx_meaning.specs.Typed.{place_type, can_store}
-use Rattle.plcx_meaning.specs.Ready.{HasType, IsVariable, StatementIsReady}
+use Rattle.plcx_meaning.specs.Typed.{referent_type, can_store}
+use Rattle.plcx_meaning.specs.Ready.{ExpressionIsReady, TargetIsReady, StatementIsReady}
 use Rattle.plcx_meaning.specs.Fits.{Standing, CanBeWritten, SourceFits, LinkFits, StoringFits, EnableFits, InputFits, InOutFits, KindFits, ProjectFits}
 use Rattle.plcx_meaning.specs.Fits as promise
 use Rattle.plcx_meaning.proofs.Names.{wire_own, memory_own}
@@ -39,10 +39,10 @@ zero_in_range ty.Time = within_range ty.Time (pos 0) refl
 
 module _ (project : Project) (p : Pou) (fits : ProjectFits project) (there : Contains project p) where
   abbrev pub Typed : Expression → Ty → Type 0
-  Typed = HasType (scope project p fits there)
+  Typed = ExpressionIsReady (scope project p fits there)
 
   abbrev pub Target : List ℕ → Ty → Type 0
-  Target x t = IsVariable (scope project p fits there) x t can_store
+  Target x t = TargetIsReady (scope project p fits there) x t can_store
 
   abbrev pub Ready : Statement → Type 0
   Ready = StatementIsReady (scope project p fits there)
@@ -60,17 +60,17 @@ module _ (project : Project) (p : Pou) (fits : ProjectFits project) (there : Con
   not_if_has false e t truths h = h
 
   -- the compiler's own variables
-  pub wire_target : (id : ℕ) (pin : List ℕ) (t : Ty) → place_of (here project p top) (wire_name id pin) ≡ Temporary t → Target (wire_name id pin) t
-  wire_target id pin t h = own_ready project p fits there (wire_name id pin) t (wire_own id pin) (ap place_type h)
+  pub wire_target : (id : ℕ) (pin : List ℕ) (t : Ty) → referent_of (here project p top) (wire_name id pin) ≡ Temporary t → Target (wire_name id pin) t
+  wire_target id pin t h = own_ready project p fits there (wire_name id pin) t (wire_own id pin) (ap referent_type h)
 
-  pub wire_has : (id : ℕ) (pin : List ℕ) (t : Ty) → place_of (here project p top) (wire_name id pin) ≡ Temporary t → Typed (wire id pin) t
-  wire_has id pin t h = name_has (scope project p fits there) (wire_name id pin) t (ap place_type h)
+  pub wire_has : (id : ℕ) (pin : List ℕ) (t : Ty) → referent_of (here project p top) (wire_name id pin) ≡ Temporary t → Typed (wire id pin) t
+  wire_has id pin t h = name_has (scope project p fits there) (wire_name id pin) t (ap referent_type h)
 
-  pub memory_target : (k : Memory) (t : Ty) → place_of (here project p top) (memory_name k) ≡ Kept t → Target (memory_name k) t
-  memory_target k t h = own_ready project p fits there (memory_name k) t (memory_own k) (ap place_type h)
+  pub memory_target : (k : Memory) (t : Ty) → referent_of (here project p top) (memory_name k) ≡ Kept t → Target (memory_name k) t
+  memory_target k t h = own_ready project p fits there (memory_name k) t (memory_own k) (ap referent_type h)
 
-  pub memory_has : (k : Memory) (t : Ty) → place_of (here project p top) (memory_name k) ≡ Kept t → Typed (memory k) t
-  memory_has k t h = name_has (scope project p fits there) (memory_name k) t (ap place_type h)
+  pub memory_has : (k : Memory) (t : Ty) → referent_of (here project p top) (memory_name k) ≡ Kept t → Typed (memory k) t
+  memory_has k t h = name_has (scope project p fits there) (memory_name k) t (ap referent_type h)
 
   module _ (done : List (ℕ × Port)) where
     abbrev pub at : Standing

@@ -5,19 +5,20 @@ use Rattle.std.specs.Str.{bytes_eq}
 use Rattle.std.proofs.lemmas.Bool.{and_from, and_parts, or_right}
 use Rattle.plcx_types.specs.declared.ty.Ty.{Ty}
 use Rattle.plcx_types.specs.declared.ty.Ty.TheVariants as ty
-use Rattle.plcx_types.specs.Name.{folded}
+use Rattle.plcx_types.specs.Name.{in_lower_case}
 use Rattle.plcx_types.specs.TypeName.{type_named}
 use Rattle.plcx_meaning.specs.Base.{Each, Site, AtOutput}
 use Rattle.plcx_meaning.specs.Tree.{Class, Local, Temp, Argument}
 use Rattle.plcx_meaning.specs.Tree as tree
 use Rattle.plcx_meaning.specs.Layout.{Variable, variables_of, variable_named, Elementary}
-use Rattle.plcx_meaning.specs.Diagram.{Source, Rail, Literal, Wire, Back, Link, Operand, Own, Output, Storing, Stored, Inverted, Set, Reset, Enable, Input, InOut, Output', Kind, Still, In, Out, Contact, Coil, Pass, Label, Jump, Return, Function, Call, Port, port, ports, Element, Pou, Project}
+use Rattle.plcx_meaning.specs.Diagram.{Source, Rail, Literal, Wire, Back, Link, Operand, Own, Output, Storing, Stored, Inverted, Set, Reset, Enable, InputPin, InOutPin, OutputPin, ElementKind, Still, In, Out, Contact, Coil, Pass, Label, Jump, Return, Function, Call, Port, port, ports, DiagramElement, Pou, Project}
 use Rattle.plcx_meaning.specs.Evaluate as evaluate
 use Rattle.plcx_meaning.specs.Evaluate.{operand_leaf}
 use Rattle.plcx_meaning.specs.Execute as text
-use Rattle.plcx_meaning.specs.Execute.{Place, Temporary, Kept, Instance, place_by, place, Here, place_of, Frame, parts_named, read_member, read_output, value_of, Formal, Takes, Binds, formal_by, formal, formal_named, is_bound, all_bound}
+use Rattle.plcx_meaning.specs.Execute.{Referent, Temporary, Kept, Instance, referent_by, referent, TextSetting, referent_of, Frame, parts_named, read_member, read_output, value_of, Formal, Takes, Binds, formal_by, formal, formal_named, is_bound, all_bound}
 use Rattle.plcx_meaning.specs.Templates.{wire_name, memory_name, input_text, in_out_text, unit_of}
 use Rattle.plcx_meaning.specs.Fits.{IsInstance, SourceFits, LinkFits, OperandFits, StoringFits, EnableFits, InputFits, InOutFits, OutputFits, all_listed, CallFits, TruthFits, KindFits, fixed_by, ElementsFit, PortsFit, PouFits, ProjectFits}
+use Rattle.plcx_meaning.proofs.Fed.{fed_ports}
 use Rattle.plcx_meaning.proofs.Lists.{each_at, each_from, each_map, each_append}
 use Rattle.plcx_meaning.proofs.LookupsOwn.{elementary_meaning, composed_meaning, wire_place, edge_place, fed_place, counter_place}
 use Rattle.plcx_meaning.proofs.StaticsWorlds.{hidden, hidden_each}
@@ -34,10 +35,10 @@ any_map test f [] = refl
 any_map test f (x ∷ xs) = ap (λ b. test (f x) || b) (any_map test f xs)
 
 -- each in-out of a block has an argument in the text
-module _ (taken : List Input) (bound : List InOut) where
-  one_bound : (k : Class) (name : List ℕ) → elim k [ tree.InOut ↦ list_any (λ (i : InOut). bytes_eq (folded i.name) (folded name)) bound | _ ↦ true ] ≡ true
-      → elim k [ tree.InOut ↦ list_any (λ (a : Argument). bytes_eq (folded a.formal) (folded name)) (map input_text taken ++ map in_out_text bound) | _ ↦ true ] ≡ true
-  one_bound tree.InOut name h = any_right _ (map input_text taken) (map in_out_text bound) (any_map (λ (a : Argument). bytes_eq (folded a.formal) (folded name)) in_out_text bound ∙ h)
+module _ (taken : List InputPin) (bound : List InOutPin) where
+  one_bound : (k : Class) (name : List ℕ) → elim k [ tree.InOut ↦ list_any (λ (i : InOutPin). bytes_eq (in_lower_case i.name) (in_lower_case name)) bound | _ ↦ true ] ≡ true
+      → elim k [ tree.InOut ↦ list_any (λ (a : Argument). bytes_eq (in_lower_case a.formal) (in_lower_case name)) (map input_text taken ++ map in_out_text bound) | _ ↦ true ] ≡ true
+  one_bound tree.InOut name h = any_right _ (map input_text taken) (map in_out_text bound) (any_map (λ (a : Argument). bytes_eq (in_lower_case a.formal) (in_lower_case name)) in_out_text bound ∙ h)
   one_bound tree.Local name h = refl
   one_bound tree.Input name h = refl
   one_bound tree.Output name h = refl
@@ -53,7 +54,7 @@ module _ (taken : List Input) (bound : List InOut) where
 module _ (project : Project) (p : Pou) (fits : ProjectFits project) (there : Contains project p) (site : Site) (ok : IsDeclared site) where
   -- the place of each wire that is fixed
   abbrev FixedAsked : List (ℕ × Port) → Type 0
-  FixedAsked done = Each (λ (d : ℕ × Port). place_of (here project p site) (wire_name d.0 d.1.pin) ≡ Temporary d.1.ty) done
+  FixedAsked done = Each (λ (d : ℕ × Port). referent_of (here project p site) (wire_name d.0 d.1.pin) ≡ Temporary d.1.ty) done
 
   operand_asked : (done : List (ℕ × Port)) (operand : Operand) (t : Ty) → OperandFits (record { project = project; pou = p; done = done }) operand t → OperandAsked (here project p site) (variables_of p.lists) operand t
   operand_asked done (Own x) t h =
@@ -65,18 +66,18 @@ module _ (project : Project) (p : Pou) (fits : ProjectFits project) (there : Con
       let world = text.world_of (unit_of project) in
       record {
         reads = λ s f.
-            ap (λ o. read_output world o (folded x ∷ folded i ∷ site.path) s) (member_found project p fits there site ok i x within v h.1 h.2.found)
-            ∙ ap₂ (λ m k. read_member m k (folded x ∷ folded i ∷ site.path) s) (elementary_meaning world v.ty t h.2.typed) h.2.class;
-        declared = leaf_declared x (folded i ∷ site.path) (member_own project p fits there site ok i x within v h.1 h.2.found) (leaf_declared i site.path (own_name project p fits there site ok i h.1.variable h.1.found) ok.path);
+            ap (λ o. read_output world o (in_lower_case x ∷ in_lower_case i ∷ site.path) s) (member_found project p fits there site ok i x within v h.1 h.2.found)
+            ∙ ap₂ (λ m k. read_member m k (in_lower_case x ∷ in_lower_case i ∷ site.path) s) (elementary_meaning world v.ty t h.2.typed) h.2.class;
+        declared = leaf_declared x (in_lower_case i ∷ site.path) (member_own project p fits there site ok i x within v h.1 h.2.found) (leaf_declared i site.path (own_name project p fits there site ok i h.1.variable h.1.found) ok.path);
       }
 
   source_asked : (done : List (ℕ × Port)) → FixedAsked done → (t : Ty) (s : Source) → SourceFits (record { project = project; pou = p; done = done }) t s → SourceAsked (here project p site) done t s
   source_asked done all t Rail h = h
   source_asked done all t (Literal negated n) h = h.1
-  source_asked done all t (Wire id pin) h = (each_at (λ (d : ℕ × Port). place_of (here project p site) (wire_name d.0 d.1.pin) ≡ Temporary d.1.ty) done (id, port pin t) all h, h)
+  source_asked done all t (Wire id pin) h = (each_at (λ (d : ℕ × Port). referent_of (here project p site) (wire_name d.0 d.1.pin) ≡ Temporary d.1.ty) done (id, port pin t) all h, h)
   source_asked done all t (Back id pin) h =
-      let e : Element = h.0 in
-      subst (λ n. place_of (here project p site) (memory_name (AtOutput n pin)) ≡ Kept t) h.2
+      let e : DiagramElement = h.0 in
+      subst (λ n. referent_of (here project p site) (memory_name (AtOutput n pin)) ≡ Kept t) h.2
       (fed_place project p (pou_fits project p fits there site ok) (text.world_of (unit_of project)) e (port pin t) h.1 h.3)
 
   sources_asked : (done : List (ℕ × Port)) → FixedAsked done → (t : Ty) (ss : List Source) → Each (SourceFits (record { project = project; pou = p; done = done }) t) ss → Each (SourceAsked (here project p site) done t) ss
@@ -99,14 +100,14 @@ module _ (project : Project) (p : Pou) (fits : ProjectFits project) (there : Con
   enable_asked : (done : List (ℕ × Port)) → FixedAsked done → (enable : Enable) → EnableFits (record { project = project; pou = p; done = done }) enable → EnableAsked (here project p site) done enable
   enable_asked done all enable h link is = let one = h link is in (link_asked done all link one.0, one.1)
 
-  formal_found : (i x : List ℕ) (within : List Variable) (v : Variable) (t : Ty) → IsInstance (evaluate.world_of project) (variables_of p.lists) i within → variable_named (folded x) within ≡ Some v → type_named v.ty ≡ Some t
+  formal_found : (i x : List ℕ) (within : List Variable) (v : Variable) (t : Ty) → IsInstance (evaluate.world_of project) (variables_of p.lists) i within → variable_named (in_lower_case x) within ≡ Some v → type_named v.ty ≡ Some t
       → formal_named (here project p site) i x ≡ formal_by (Elementary t) v.class
   formal_found i x within v t is found typed =
       let world = text.world_of (unit_of project) in
       ap (formal world) (member_found project p fits there site ok i x within v is found) ∙ ap (λ m. formal_by m v.class) (elementary_meaning world v.ty t typed)
 
   module _ (done : List (ℕ × Port)) (all : FixedAsked done) (i : List ℕ) (within : List Variable) (is : IsInstance (evaluate.world_of project) (variables_of p.lists) i within) where
-    inputs_asked : (ins : List Input) → Each (InputFits (record { project = project; pou = p; done = done }) within) ins → Each (InputAsked (here project p site) done i) ins
+    inputs_asked : (ins : List InputPin) → Each (InputFits (record { project = project; pou = p; done = done }) within) ins → Each (InputAsked (here project p site) done i) ins
     inputs_asked [] h = tt
     inputs_asked (a ∷ ins) h =
         let v : Variable = h.0.0.variable in (
@@ -118,7 +119,7 @@ module _ (project : Project) (p : Pou) (fits : ProjectFits project) (there : Con
           inputs_asked ins h.1,
         )
 
-    in_outs_asked : (ins : List InOut) → Each (InOutFits (record { project = project; pou = p; done = done }) within) ins → Each (InOutAsked (here project p site) (variables_of p.lists) i) ins
+    in_outs_asked : (ins : List InOutPin) → Each (InOutFits (record { project = project; pou = p; done = done }) within) ins → Each (InOutAsked (here project p site) (variables_of p.lists) i) ins
     in_outs_asked [] h = tt
     in_outs_asked (a ∷ ins) h =
         let v : Variable = h.0.1.variable in (
@@ -130,7 +131,7 @@ module _ (project : Project) (p : Pou) (fits : ProjectFits project) (there : Con
           in_outs_asked ins h.1,
         )
 
-    outputs_asked : (outs : List Output') → Each (OutputFits within) outs → Each (OutputAsked (here project p site) i) outs
+    outputs_asked : (outs : List OutputPin) → Each (OutputFits within) outs → Each (OutputAsked (here project p site) i) outs
     outputs_asked [] h = tt
     outputs_asked (o ∷ outs) h =
         let v : Variable = h.0.0.variable in
@@ -143,7 +144,7 @@ module _ (project : Project) (p : Pou) (fits : ProjectFits project) (there : Con
           outputs_asked outs h.1,
         )
 
-  call_asked : (done : List (ℕ × Port)) → FixedAsked done → (i : List ℕ) (taken : List Input) (bound : List InOut) (given : List Output') → CallFits (record { project = project; pou = p; done = done }) i taken bound given
+  call_asked : (done : List (ℕ × Port)) → FixedAsked done → (i : List ℕ) (taken : List InputPin) (bound : List InOutPin) (given : List OutputPin) → CallFits (record { project = project; pou = p; done = done }) i taken bound given
       → CallAsked (here project p site) (variables_of p.lists) done i taken bound given
   call_asked done all i taken bound given h =
       let v : Variable = h.called.variable in
@@ -152,7 +153,7 @@ module _ (project : Project) (p : Pou) (fits : ProjectFits project) (there : Con
         variable = v;
         found = h.called.found;
         composite = h.called.composite;
-        place = ap (place world) (in_text project p fits there site ok i v h.called.found) ∙ ap (λ m. place_by m v.class v.ty) (composed_meaning world v.ty h.called.composite);
+        place = ap (referent world) (in_text project p fits there site ok i v h.called.found) ∙ ap (λ m. referent_by m v.class v.ty) (composed_meaning world v.ty h.called.composite);
         declared = leaf_declared i [] (own_name project p fits there site ok i v h.called.found) refl;
         inputs = inputs_asked done all i h.within h.called taken h.inputs;
         in_outs = in_outs_asked done all i h.within h.called bound h.in_outs;
@@ -165,7 +166,7 @@ module _ (project : Project) (p : Pou) (fits : ProjectFits project) (there : Con
   truth_asked : (done : List (ℕ × Port)) → FixedAsked done → (link : Link) → TruthFits (record { project = project; pou = p; done = done }) link → TruthAsked (here project p site) done link
   truth_asked done all link h = (link_asked done all link h.0, h.1)
 
-  kind_asked : (done : List (ℕ × Port)) → FixedAsked done → (k : Kind) → KindFits (record { project = project; pou = p; done = done }) k → KindAsked (here project p site) (variables_of p.lists) done k
+  kind_asked : (done : List (ℕ × Port)) → FixedAsked done → (k : ElementKind) → KindFits (record { project = project; pou = p; done = done }) k → KindAsked (here project p site) (variables_of p.lists) done k
   kind_asked done all Still h = tt
   kind_asked done all (In t negated operand) h = (operand_asked done operand t h.0, h.1)
   kind_asked done all (Out how x link) h = (variable_asked project p fits there site ok x link.ty h.0, storing_asked how link.ty h.1, link_asked done all link h.2)
@@ -182,25 +183,25 @@ module _ (project : Project) (p : Pou) (fits : ProjectFits project) (there : Con
   )
   kind_asked done all (Call i enable taken bound given) h = (call_asked done all i taken bound given h.0, enable_asked done all enable h.1)
 
-  own_asked : (e : Element) → Contains p.elements e → OwnAsked (here project p site) e
+  own_asked : (e : DiagramElement) → Contains p.elements e → OwnAsked (here project p site) e
   own_asked e among =
       let pf : PouFits project p = pou_fits project p fits there site ok in
-      let fit : PortsFit e = each_at PortsFit p.elements e pf.ports among in
+      let fit : PortsFit p e = each_at (PortsFit p) p.elements e pf.ports among in
       let world = text.world_of (unit_of project) in
       record {
         small = fit.small;
         wires = each_from _ (ports e.kind) (λ o is. wire_place project p pf world e o among is);
         edge = edge_place project p pf world e among;
-        fed = each_from _ e.fed (λ o is. (fed_place project p pf world e o among is, each_at (Contains (ports e.kind)) e.fed o fit.fed is));
+        fed = each_from _ e.fed (λ o is. (fed_place project p pf world e o among is, each_at (Contains (ports e.kind)) e.fed o (fed_ports p e fit) is));
       }
 
-  elements_asked : (done : List (ℕ × Port)) → FixedAsked done → (es : List Element) → ElementsFit project p done es → ElementsAsked (here project p site) (variables_of p.lists) done es
+  elements_asked : (done : List (ℕ × Port)) → FixedAsked done → (es : List DiagramElement) → ElementsFit project p done es → ElementsAsked (here project p site) (variables_of p.lists) done es
   elements_asked done all [] h = tt
   elements_asked done all (e ∷ es) h =
       let asked = own_asked e h.0 in
       (asked, h.1, kind_asked done all e.kind h.2, elements_asked (fixed_by e ++ done) (each_append _ (fixed_by e) done (each_map _ (λ (o : Port). (e.id, o)) (ports e.kind) asked.wires) all) es h.3)
 
-  networks_asked : (networks : List (List Element)) → Each (ElementsFit project p []) networks → Each (ElementsAsked (here project p site) (variables_of p.lists) []) networks
+  networks_asked : (networks : List (List DiagramElement)) → Each (ElementsFit project p []) networks → Each (ElementsAsked (here project p site) (variables_of p.lists) []) networks
   networks_asked [] h = tt
   networks_asked (es ∷ rest) h = (elements_asked [] tt es h.0, networks_asked rest h.1)
 

@@ -7,7 +7,7 @@ use Rattle.std.specs.Str.{bytes_eq}
 use Rattle.std.proofs.lemmas.Bool.{and_parts, not-true}
 use Rattle.plcx_types.specs.declared.ty.Ty.{Ty}
 use Rattle.plcx_types.specs.declared.ty.Ty.TheVariants as ty
-use Rattle.plcx_types.specs.Name.{folded}
+use Rattle.plcx_types.specs.Name.{in_lower_case}
 use Rattle.plcx_types.specs.Reserved.{is_own}
 use Rattle.plcx_std.specs.declared.kind.StdKind.{StdKind}
 use Rattle.plcx_std.specs.declared.kind.StdKind.TheVariants as kind
@@ -16,7 +16,7 @@ use Rattle.plcx_meaning.specs.Base.{Each, Memory, AtEdge, AtOutput}
 use Rattle.plcx_meaning.specs.Tree.{Local, Temp, Plain, Declaration, PouText}
 use Rattle.plcx_meaning.specs.Standard.{pin_blocks}
 use Rattle.plcx_meaning.specs.Layout.{Variable, variable, variables_of, variable_named, composed}
-use Rattle.plcx_meaning.specs.Diagram.{Port, ports, has_edge, is_program, Element, Pou, Project, has_jump}
+use Rattle.plcx_meaning.specs.Diagram.{Port, ports, has_edge, is_program, DiagramElement, Pou, Project, has_jump}
 use Rattle.plcx_meaning.specs.Diagram as diagram
 use Rattle.plcx_meaning.specs.Evaluate as evaluate
 use Rattle.plcx_meaning.specs.Execute as text
@@ -30,7 +30,7 @@ use Rattle.plcx_meaning.proofs.LookupsOwn.{own_variable, variables_declared}
 -- the function block of a name is one of the text
 pub block_text : (name : List ℕ) (project : Project) → text.block_named name (unit_of project) ≡ option_map pou_text (diagram.block_named name project)
 block_text name [] = refl
-block_text name (p ∷ ps) = by_test (not (is_program p.kind) && bytes_eq (folded p.name) (folded name)) (block_text name ps)
+block_text name (p ∷ ps) = by_test (not (is_program p.kind) && bytes_eq (in_lower_case p.name) (in_lower_case name)) (block_text name ps)
   where
     by_test : (b : Bool) → text.block_named name (unit_of ps) ≡ option_map pou_text (diagram.block_named name ps)
         → cond b (Some (pou_text p)) (text.block_named name (unit_of ps)) ≡ option_map pou_text (cond b (Some p) (diagram.block_named name ps))
@@ -40,7 +40,7 @@ block_text name (p ∷ ps) = by_test (not (is_program p.kind) && bytes_eq (folde
 -- what the checks promise holds of the block of a name
 pub block_fits : (project : Project) (name : List ℕ) (ps : Project) (q : Pou) → Each (PouFits project) ps → diagram.block_named name ps ≡ Some q → PouFits project q
 block_fits project name [] q all h = absurd (cc)
-block_fits project name (p ∷ ps) q all h = by_test (not (is_program p.kind) && bytes_eq (folded p.name) (folded name)) (block_fits project name ps q all.1) h
+block_fits project name (p ∷ ps) q all h = by_test (not (is_program p.kind) && bytes_eq (in_lower_case p.name) (in_lower_case name)) (block_fits project name ps q all.1) h
   where
     by_test : (b : Bool) → (diagram.block_named name ps ≡ Some q → PouFits project q) → cond b (Some p) (diagram.block_named name ps) ≡ Some q → PouFits project q
     by_test true later e = let same : p ≡ q = cc in subst (PouFits project) same all.0
@@ -52,7 +52,7 @@ hidden_of None = []
 hidden_of (Some q) = own_variables q
 
 abbrev pub hidden_by : Project → List ℕ → Option StdKind → List Variable
-hidden_by project name None = hidden_of (diagram.block_named (folded name) project)
+hidden_by project name None = hidden_of (diagram.block_named (in_lower_case name) project)
 hidden_by project name (Some k) = []
 
 abbrev pub hidden : Project → List ℕ → List Variable
@@ -68,9 +68,9 @@ world_text project key = ap (λ (o : Option PouText). variables_of (elim o [ Som
 pub text_composed : (project : Project) (name : List ℕ) → composed (text.world_of (unit_of project)) name ≡ composed (evaluate.world_of project) name ++ hidden project name
 text_composed project name = by_kind (kind_named name)
   where
-    by_kind : (o : Option StdKind) → elim o [ Some k ↦ variables_of (pin_blocks k) | None ↦ variables_of (text.world_of (unit_of project) (folded name)) ]
-        ≡ elim o [ Some k ↦ variables_of (pin_blocks k) | None ↦ variables_of (evaluate.world_of project (folded name)) ] ++ hidden_by project name o
-    by_kind None = world_text project (folded name)
+    by_kind : (o : Option StdKind) → elim o [ Some k ↦ variables_of (pin_blocks k) | None ↦ variables_of (text.world_of (unit_of project) (in_lower_case name)) ]
+        ≡ elim o [ Some k ↦ variables_of (pin_blocks k) | None ↦ variables_of (evaluate.world_of project (in_lower_case name)) ] ++ hidden_by project name o
+    by_kind None = world_text project (in_lower_case name)
     by_kind (Some k) = sym (append-nil (variables_of (pin_blocks k)))
 
 -- what holds of each memory, each wire and the counter holds of all that is hidden
@@ -83,10 +83,10 @@ module _ (P : Variable → Type 0) (of_memory : (k : Memory) (t : Ty) → P (own
   counter_each true = (of_counter, tt)
   counter_each false = tt
 
-  memories_each : (e : Element) → Each (λ (d : Declaration). P (variable Local Plain d)) (element_memories e)
+  memories_each : (e : DiagramElement) → Each (λ (d : Declaration). P (variable Local Plain d)) (element_memories e)
   memories_each e = each_append _ _ _ (edge_each (has_edge e.kind) e.id) (each_map _ (λ (o : Port). own (memory_name (AtOutput e.id o.pin)) o.ty) e.fed (each_from _ e.fed (λ o there. of_memory (AtOutput e.id o.pin) o.ty)))
 
-  wires_each : (e : Element) → Each (λ (d : Declaration). P (variable Temp Plain d)) (element_wires e)
+  wires_each : (e : DiagramElement) → Each (λ (d : Declaration). P (variable Temp Plain d)) (element_wires e)
   wires_each e = each_map _ (λ (o : Port). own (wire_name e.id o.pin) o.ty) (ports e.kind) (each_from _ (ports e.kind) (λ o there. of_wire e.id o.pin o.ty))
 
   pub own_each : (p : Pou) → Each P (own_variables p)
@@ -104,7 +104,7 @@ module _ (P : Variable → Type 0) (of_memory : (k : Memory) (t : Ty) → P (own
   hidden_each project name = by_kind (kind_named name)
     where
       by_kind : (o : Option StdKind) → Each P (hidden_by project name o)
-      by_kind None = hidden_of_each (diagram.block_named (folded name) project)
+      by_kind None = hidden_of_each (diagram.block_named (in_lower_case name) project)
       by_kind (Some k) = tt
 
 pub own_variables_own : (p : Pou) → Each IsOwnVariable (own_variables p)
@@ -124,7 +124,7 @@ declared_in_type project name key own =
 
 -- no variable of a standard block has an own name
 abbrev is_apart : Variable → Bool
-is_apart v = not (is_own (folded v.name))
+is_apart v = not (is_own (in_lower_case v.name))
 
 pins_apart : (k : StdKind) → list_all is_apart (variables_of (pin_blocks k)) ≡ true
 pins_apart kind.Ton = refl
@@ -140,7 +140,7 @@ pins_apart kind.FTrig = refl
 
 each_apart : (vs : List Variable) → list_all is_apart vs ≡ true → Each IsDeclaredVariable vs
 each_apart [] h = tt
-each_apart (v ∷ vs) h = let parts = and_parts (is_apart v) (list_all is_apart vs) h in (not-true (is_own (folded v.name)) parts.0, each_apart vs parts.1)
+each_apart (v ∷ vs) h = let parts = and_parts (is_apart v) (list_all is_apart vs) h in (not-true (is_own (in_lower_case v.name)) parts.0, each_apart vs parts.1)
 
 pub pins_declared : (k : StdKind) → Each IsDeclaredVariable (variables_of (pin_blocks k))
 pins_declared k = each_apart (variables_of (pin_blocks k)) (pins_apart k)
@@ -149,10 +149,10 @@ pins_declared k = each_apart (variables_of (pin_blocks k)) (pins_apart k)
 pub composed_declared : (project : Project) → ProjectFits project → (name : List ℕ) → Each IsDeclaredVariable (composed (evaluate.world_of project) name)
 composed_declared project fits name = by_kind (kind_named name)
   where
-    of_block : (o : Option Pou) → diagram.block_named (folded name) project ≡ o → Each IsDeclaredVariable (variables_of (elim o [ Some p ↦ p.lists | None ↦ [] ]))
+    of_block : (o : Option Pou) → diagram.block_named (in_lower_case name) project ≡ o → Each IsDeclaredVariable (variables_of (elim o [ Some p ↦ p.lists | None ↦ [] ]))
     of_block None e = tt
-    of_block (Some q) e = variables_declared project q (block_fits project (folded name) project q fits.pous e)
+    of_block (Some q) e = variables_declared project q (block_fits project (in_lower_case name) project q fits.pous e)
 
-    by_kind : (o : Option StdKind) → Each IsDeclaredVariable (elim o [ Some k ↦ variables_of (pin_blocks k) | None ↦ variables_of (evaluate.world_of project (folded name)) ])
-    by_kind None = of_block (diagram.block_named (folded name) project) refl
+    by_kind : (o : Option StdKind) → Each IsDeclaredVariable (elim o [ Some k ↦ variables_of (pin_blocks k) | None ↦ variables_of (evaluate.world_of project (in_lower_case name)) ])
+    by_kind None = of_block (diagram.block_named (in_lower_case name) project) refl
     by_kind (Some k) = pins_declared k

@@ -17,8 +17,8 @@ use Rattle.plcx_meaning.specs.Base.{Path, OutOfTurns, Outcome, Ended, Stopped, S
 use Rattle.plcx_meaning.specs.Tree.{Class, Local, Input, Output, InOut, Temp, Expression, Number, Name, Member, Apply, Not, Binary, Expressions, no_expression, expression}
 use Rattle.plcx_meaning.specs.Layout.{Variable, World, Meaning, Elementary, Composed, meaning, Scope}
 use Rattle.plcx_meaning.specs.Functions.{Answer, Given, Faulty, Missing, on_value, can_apply, out_type, group_of, answer, call_at, call_function, call_named}
-use Rattle.plcx_meaning.specs.Execute.{Place, Temporary, Kept, Bound, Instance, Unknown, Here, Run, Frame, read, read_member, read_output, function_of, value_of, values_of, with_value, with_truth, assign, turns}
-use Rattle.plcx_meaning.specs.Typed.{place_type, read_type, member_type, is_operator, type_at, result_type, call_type, expression_type, expression_types, part_in}
+use Rattle.plcx_meaning.specs.Execute.{Referent, Temporary, Kept, Bound, Instance, Unknown, TextSetting, TextState, Frame, read, read_member, read_output, function_of, value_of, values_of, with_value, with_truth, assign, turns}
+use Rattle.plcx_meaning.specs.Typed.{referent_type, read_type, member_type, is_operator, type_at, result_type, call_type, expression_type, expression_types, part_in}
 
 -- a value with this property, or a fault
 abbrev pub HoldsAt : {A : Type 0} → (A → Type 0) → Answer A → Type 0
@@ -74,7 +74,7 @@ named_good (Some f) vs types t same h = by_test (is_operator f) h
     by_test false e = call_good f vs types t same e
 
 -- names and members
-read_good : (p : Place) (x : List ℕ) (site : Site) (s : Path → ℤ) (f : Frame) (t : Ty) → place_type p ≡ Some t → Good t (read p x site s f)
+read_good : (p : Referent) (x : List ℕ) (site : Site) (s : Path → ℤ) (f : Frame) (t : Ty) → referent_type p ≡ Some t → Good t (read p x site s f)
 read_good (Temporary u) x site s f t h = record { is = cc }
 read_good (Kept u) x site s f t h = record { is = cc }
 read_good (Bound u) x site s f t h = record { is = cc }
@@ -94,7 +94,7 @@ member_good world None p s t h = absurd (cc)
 member_good world (Some v) p s t h = within_good (meaning world v.ty) v.class p s t h
 
 -- where a statement of a scope stands
-abbrev pub here : Scope → Site → Here
+abbrev pub here : Scope → Site → TextSetting
 here c site = record { world = c.world; variables = c.own; site = site }
 
 mutual
@@ -125,56 +125,56 @@ mutual
       record { is = ap (λ u. u ∷ types_of vs) left ∙ ap (λ us. one.0 ∷ us) right ∙ rest.2 }))
 
 -- a step that goes on
-abbrev pub GoesAt : {L : Type 0} → Outcome Run L → Type 0
+abbrev pub GoesAt : {L : Type 0} → Outcome TextState L → Type 0
 GoesAt (Ended g l) = Unit {0}
 GoesAt (Stopped s g) = Unit {0}
 GoesAt Stuck = ⊥
 
-pub record Goes {L : Type 0} (o : Outcome Run L) : Type 0 where
+pub record Goes {L : Type 0} (o : Outcome TextState L) : Type 0 where
   pub is : GoesAt o
 
-pub goes_end : {L : Type 0} (g : Run) (l : L) → Goes (Ended g l)
+pub goes_end : {L : Type 0} (g : TextState) (l : L) → Goes (Ended g l)
 goes_end g l = record { is = tt }
 
-pub goes_not_stuck : {L : Type 0} (o : Outcome Run L) → Goes o → o ≢ Stuck
+pub goes_not_stuck : {L : Type 0} (o : Outcome TextState L) → Goes o → o ≢ Stuck
 goes_not_stuck (Ended g l) h e = cc
 goes_not_stuck (Stopped s g) h e = cc
 goes_not_stuck Stuck h e = absurd h.is
 
-pub goes_then : {L K : Type 0} (o : Outcome Run L) (h : Run → L → Outcome Run K) → Goes o → ((g : Run) (l : L) → Goes (h g l)) → Goes (then_do o h)
+pub goes_then : {L K : Type 0} (o : Outcome TextState L) (h : TextState → L → Outcome TextState K) → Goes o → ((g : TextState) (l : L) → Goes (h g l)) → Goes (then_do o h)
 goes_then (Ended g l) h a next = next g l
 goes_then (Stopped s g) h a next = record { is = tt }
 goes_then Stuck h a next = absurd a.is
 
-pub goes_value : {A L : Type 0} {P : A → Type 0} (a : Answer A) (g : Run) (go : A → Outcome Run L) → Holds P a → ((x : A) → P x → Goes (go x)) → Goes (with_value a g go)
+pub goes_value : {A L : Type 0} {P : A → Type 0} (a : Answer A) (g : TextState) (go : A → Outcome TextState L) → Holds P a → ((x : A) → P x → Goes (go x)) → Goes (with_value a g go)
 goes_value (Given x) g go h next = next x h.is
 goes_value (Faulty fault) g go h next = record { is = tt }
 goes_value Missing g go h next = absurd h.is
 
 -- a test that the value has its type
-pub goes_typed : {L : Type 0} (u t : Ty) (o : Outcome Run L) → u ≡ t → Goes o → Goes (if same_ty u t then o else Stuck)
+pub goes_typed : {L : Type 0} (u t : Ty) (o : Outcome TextState L) → u ≡ t → Goes o → Goes (if same_ty u t then o else Stuck)
 goes_typed u t o e h = rw (ap (λ w. same_ty w t) e ∙ same_refl t) h
 
-pub goes_truth : {L : Type 0} (a : Answer Value) (g : Run) (go : Bool → Outcome Run L) → Good ty.Bool a → ((b : Bool) → Goes (go b)) → Goes (with_truth a g go)
+pub goes_truth : {L : Type 0} (a : Answer Value) (g : TextState) (go : Bool → Outcome TextState L) → Good ty.Bool a → ((b : Bool) → Goes (go b)) → Goes (with_truth a g go)
 goes_truth a g go h next = goes_value a g _ h (λ v same. goes_typed v.ty ty.Bool _ same (next _))
 
-pub goes_if : {L : Type 0} (b : Bool) (o p : Outcome Run L) → Goes o → Goes p → Goes (if b then o else p)
+pub goes_if : {L : Type 0} (b : Bool) (o p : Outcome TextState L) → Goes o → Goes p → Goes (if b then o else p)
 goes_if true o p h k = h
 goes_if false o p h k = k
 
-goes_spend : {L : Type 0} (n : ℕ) (g : Run) (go : ℕ → Outcome Run L) → ((j : ℕ) → Goes (go j)) → Goes (spend n g go)
+goes_spend : {L : Type 0} (n : ℕ) (g : TextState) (go : ℕ → Outcome TextState L) → ((j : ℕ) → Goes (go j)) → Goes (spend n g go)
 goes_spend zero g go h = record { is = tt }
 goes_spend (suc n) g go h = h n
 
-pub assign_goes : (p : Place) (x : List ℕ) (site : Site) (v : Value) (g : Run) (f : Frame) (t : Ty) → place_type p ≡ Some t → v.ty ≡ t → Goes (assign p x site v g f)
+pub assign_goes : (p : Referent) (x : List ℕ) (site : Site) (v : Value) (g : TextState) (f : Frame) (t : Ty) → referent_type p ≡ Some t → v.ty ≡ t → Goes (assign p x site v g f)
 assign_goes (Temporary u) x site v g f t h e = let same : v.ty ≡ u = cc in goes_typed v.ty u _ same (goes_end _ _)
 assign_goes (Kept u) x site v g f t h e = let same : v.ty ≡ u = cc in goes_typed v.ty u _ same (goes_end _ _)
 assign_goes (Bound u) x site v g f t h e = let same : v.ty ≡ u = cc in goes_typed v.ty u _ same (goes_end _ _)
 assign_goes (Instance type) x site v g f t h e = absurd (cc)
 assign_goes Unknown x site v g f t h e = absurd (cc)
 
-pub turns_go : (test : Run → Frame → Answer Value) (body : Run → Frame → Outcome Run Frame) → ((g : Run) (f : Frame) → Good ty.Bool (test g f)) → ((g : Run) (f : Frame) → Goes (body g f))
-    → (n : ℕ) (g : Run) (f : Frame) → Goes (turns n test body g f)
+pub turns_go : (test : TextState → Frame → Answer Value) (body : TextState → Frame → Outcome TextState Frame) → ((g : TextState) (f : Frame) → Good ty.Bool (test g f)) → ((g : TextState) (f : Frame) → Goes (body g f))
+    → (n : ℕ) (g : TextState) (f : Frame) → Goes (turns n test body g f)
 turns_go test body good go zero g f = goes_truth (test g f) g _ (good g f) (λ b. goes_if b (Stopped OutOfTurns g) (Ended g f) (record { is = tt }) (goes_end g f))
 turns_go test body good go (suc n) g f =
     goes_truth (test g f) g _ (good g f) (λ b. goes_if b _ _ (goes_spend g.left g _ (λ j. goes_then _ _ (go (record g { left = j }) f) (λ h k. turns_go test body good go n h k))) (goes_end g f))

@@ -1,17 +1,16 @@
 -- Sides that are the same have the same traces.
-use Rattle.std.proofs.Common.{◌≡◌, ℕ, ℤ, Bool, true, false, true≢false, List, [], ◌∷◌, Some, filter, refl, sym, ap, ap₂, ◌∙◌, if◌then◌else◌}
-use Rattle.plcx_meaning.specs.Base.{Path, is_declared, Each}
-use Rattle.plcx_meaning.specs.Layout.{Leaf, declared_leaves, IsOutside, IsRetainedState}
-use Rattle.plcx_meaning.specs.Run.{Event, Machine, Side, after, begin_side, AreEvents}
+use Rattle.std.proofs.Common.{◌≡◌, ℕ, Bool, true, false, true≢false, List, [], ◌∷◌, filter, refl, sym, ap, ap₂, ◌∙◌, if◌then◌else◌}
+use Rattle.plcx_meaning.specs.Base.{is_declared, Each}
+use Rattle.plcx_meaning.specs.Layout.{Leaf, declared_leaves, initial_in, IsOutside}
+use Rattle.plcx_meaning.specs.Run.{Event, Machine, Side, after, begin_side}
 use Rattle.plcx_meaning.specs.Same.{SameValues, SameRuns}
-use Rattle.plcx_meaning.specs.Diagram.{Pou, Project, program_named}
 use Rattle.plcx_meaning.specs.Evaluate.{diagram_machine, scope_of}
 use Rattle.plcx_meaning.specs.Execute.{text_machine}
 use Rattle.plcx_meaning.specs.Execute as text
 use Rattle.plcx_meaning.specs.Templates.{pou_text, unit_of}
-use Rattle.plcx_meaning.specs.Fits.{ProjectFits}
+use Rattle.plcx_meaning.specs.Laws.{OfPrograms, TracesAgree, StartsAgree}
 use Rattle.plcx_meaning.proofs.Units.{program_there}
-use Rattle.plcx_meaning.proofs.Events.{layout_outside, program_same}
+use Rattle.plcx_meaning.proofs.Events.{layout_outside, program_same, starts_same, starts_run}
 use Rattle.plcx_meaning.specs.Traces.{line, trace_of, values_at, shown_values, retained_values, lines_from, side_at_end, trace_from}
 
 -- what is shown is declared
@@ -74,11 +73,17 @@ module _ {G H : Type 0} (m : Machine G) (k : Machine H) where
         ends_same [] s t same runs = same
         ends_same (e ∷ es) s t same runs = ends_same es (after m turns e s) (after k turns e t) runs.2 runs.3
 
-pub all_traced : (project : Project) → ProjectFits project → (name : List ℕ) (p : Pou) → program_named name project ≡ Some p
-    → (kept : Path → ℤ) → IsRetainedState (diagram_machine project p).layout kept → (es : List Event) → AreEvents (diagram_machine project p).layout 0 es → (turns : ℕ)
-    → trace_from (diagram_machine project p) turns es (begin_side (diagram_machine project p) kept)
-    ≡ trace_from (text_machine (unit_of project) (pou_text p)) turns es (begin_side (text_machine (unit_of project) (pou_text p)) kept)
+pub all_traced : OfPrograms TracesAgree
 all_traced project fits name p named kept retained es good turns =
     let same = program_same project fits p (program_there name project p named) in
     traces_same (diagram_machine project p) (text_machine (unit_of project) (pou_text p)) same.layouts (layout_outside (scope_of project p)) (layout_outside (text.scope_of (unit_of project) (pou_text p)))
     turns es (begin_side (diagram_machine project p) kept) (begin_side (text_machine (unit_of project) (pou_text p)) kept) (same.begins kept) (same.runs kept retained es good turns)
+
+pub all_started : OfPrograms StartsAgree
+all_started project fits name p named es good turns =
+    let there = program_there name project p named in
+    traces_same (diagram_machine project p) (text_machine (unit_of project) (pou_text p)) (program_same project fits p there).layouts
+    (layout_outside (scope_of project p)) (layout_outside (text.scope_of (unit_of project) (pou_text p))) turns es
+    (begin_side (diagram_machine project p) (initial_in (diagram_machine project p).layout))
+    (begin_side (text_machine (unit_of project) (pou_text p)) (initial_in (text_machine (unit_of project) (pou_text p)).layout))
+    (starts_same project fits p there) (starts_run project fits p there es good turns)

@@ -4,7 +4,7 @@ use Rattle.std.specs.List.{list_all, list_any}
 use Rattle.std.specs.Str.{bytes_eq}
 use Rattle.plcx_types.specs.declared.fault.Fault.{Fault}
 use Rattle.plcx_types.specs.declared.ty.Ty.TheVariants as ty
-use Rattle.plcx_types.specs.Name.{folded}
+use Rattle.plcx_types.specs.Name.{in_lower_case}
 use Rattle.plcx_types.specs.Reserved.{is_own}
 use Rattle.plcx_funcs.specs.Applied.{is_zero, both_bits, turned}
 
@@ -12,6 +12,7 @@ use Rattle.plcx_funcs.specs.Applied.{is_zero, both_bits, turned}
 abbrev pub Path : Type 0
 Path = List (List ℕ)
 
+-- the same names in the same order
 abbrev pub same_path : Path → Path → Bool
 same_path [] [] = true
 same_path [] (y ∷ q) = false
@@ -30,15 +31,19 @@ changed same f x v y = if same y x then v else f y
 abbrev pub is_true : ℤ → Bool
 is_true n = not (is_zero n)
 
+-- the number of a truth value
 abbrev pub truth : Bool → ℤ
 truth b = if b then pos 1 else pos 0
 
+-- AND of two truth values
 abbrev pub and_of : ℤ → ℤ → ℤ
 and_of = both_bits bit_and
 
+-- OR of two truth values
 abbrev pub or_of : ℤ → ℤ → ℤ
 or_of = both_bits bit_or
 
+-- NOT of a truth value
 abbrev pub not_of : ℤ → ℤ
 not_of = turned ty.Bool
 
@@ -56,11 +61,12 @@ pub data Memory : Type 0 where
   AtEdge : ℕ → Memory
   AtOutput : ℕ → List ℕ → Memory
 
+-- two memories of one instance are the same: numbers are equal, and pins but for case
 abbrev pub same_memory : Memory → Memory → Bool
 same_memory (AtEdge i) (AtEdge j) = nat_eq i j
 same_memory (AtEdge i) (AtOutput j pin) = false
 same_memory (AtOutput i pin) (AtEdge j) = false
-same_memory (AtOutput i pin) (AtOutput j other) = nat_eq i j && bytes_eq (folded pin) (folded other)
+same_memory (AtOutput i pin) (AtOutput j other) = nat_eq i j && bytes_eq (in_lower_case pin) (in_lower_case other)
 
 -- the memories of all instances after a write of one
 abbrev pub put_memory : (Path → Memory → ℤ) → Path → Memory → ℤ → Path → Memory → ℤ

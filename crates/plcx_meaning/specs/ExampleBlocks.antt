@@ -16,7 +16,14 @@ use Rattle.plcx_meaning.specs.Pieces.{variable, starting, instance_of, listed, r
 -- a delay whose preset is a variable
 abbrev pub delay : Pou
 delay = main
-    (listed tree.Local (variable (codes "I") ty.Bool ∷ starting (codes "P") ty.Time (pos 100) ∷ variable (codes "Q") ty.Bool ∷ variable (codes "E") ty.Time ∷ instance_of (codes "T1") (codes "TON") ∷ []) ∷ [])
+    (listed tree.Local
+    (variable (codes "I") ty.Bool
+    ∷ starting (codes "P") ty.Time (pos 100)
+    ∷ variable (codes "Q") ty.Bool
+    ∷ variable (codes "E") ty.Time
+    ∷ instance_of (codes "T1") (codes "TON")
+    ∷ [])
+    ∷ [])
     (reads 1 ty.Bool (codes "I")
     ∷ reads 2 ty.Time (codes "P")
     ∷ calls 3 (codes "T1") (input (codes "IN") ty.Bool (wire 1) ∷ input (codes "PT") ty.Time (wire 2) ∷ []) [] (output (codes "Q") ty.Bool ∷ output (codes "ET") ty.Time ∷ [])

@@ -6,13 +6,13 @@ use Rattle.plcx_meaning.specs.Base.{OutOfTurns}
 use Rattle.plcx_meaning.specs.Tree as tree
 use Rattle.plcx_meaning.specs.Tree.{Block, Statement, Assign, Name, Binary, Plus, Less, If, While, Case, statements, arms}
 use Rattle.plcx_meaning.specs.Run.{Event, TheEnd, Halted, TheStop}
-use Rattle.plcx_meaning.specs.Diagram.{Still, Element, Pou}
+use Rattle.plcx_meaning.specs.Diagram.{Still, DiagramElement, Pou}
 use Rattle.plcx_meaning.specs.Templates.{number, dint}
 use Rattle.plcx_meaning.specs.Traces.{Trace, line, trace_of}
 use Rattle.plcx_meaning.specs.Pieces.{variable, starting, instance_of, listed, element, main, block, literal, wire, result, where_true, both_by, reads, writes, label, jump, applies, calls, scan}
 
 -- X counts to 5, in three networks
-abbrev pub loop_elements : List Element
+abbrev pub loop_elements : List DiagramElement
 loop_elements =
     label 1 (codes "L")
     ∷ reads 2 ty.Int (codes "X")
@@ -61,7 +61,14 @@ loop_statements =
 abbrev pub loop_blocks : List Block
 loop_blocks =
     listed tree.Local (variable (codes "X") ty.Int ∷ [])
-    ∷ listed tree.Temp (variable (codes "PLCX_W2") ty.Int ∷ variable (codes "PLCX_W4_OUT") ty.Int ∷ variable (codes "PLCX_W6") ty.Int ∷ variable (codes "PLCX_W8_OUT") ty.Bool ∷ variable (codes "PLCX_W9") ty.Bool ∷ variable (codes "PLCX_N") ty.Dint ∷ [])
+    ∷ listed tree.Temp
+    (variable (codes "PLCX_W2") ty.Int
+    ∷ variable (codes "PLCX_W4_OUT") ty.Int
+    ∷ variable (codes "PLCX_W6") ty.Int
+    ∷ variable (codes "PLCX_W8_OUT") ty.Bool
+    ∷ variable (codes "PLCX_W9") ty.Bool
+    ∷ variable (codes "PLCX_N") ty.Dint
+    ∷ [])
     ∷ []
 
 abbrev pub one_scan : List Event

@@ -19,7 +19,9 @@ next = block (codes "Next")
 
 abbrev pub enabled_block : Pou
 enabled_block = main
-    (listed tree.Local (variable (codes "E") ty.Bool ∷ variable (codes "I") ty.Int ∷ variable (codes "O") ty.Int ∷ variable (codes "N") ty.Bool ∷ []) ∷ retained (instance_of (codes "K") (codes "Next") ∷ []) ∷ [])
+    (listed tree.Local (variable (codes "E") ty.Bool ∷ variable (codes "I") ty.Int ∷ variable (codes "O") ty.Int ∷ variable (codes "N") ty.Bool ∷ [])
+    ∷ retained (instance_of (codes "K") (codes "Next") ∷ [])
+    ∷ [])
     (reads 1 ty.Bool (codes "E")
     ∷ reads 2 ty.Int (codes "I")
     ∷ element 3 (Call (codes "K") (record { en = Some (link ty.Bool (wire 1)); eno = Some true }) (input (codes "D") ty.Int (wire 2) ∷ []) [] (output (codes "Q") ty.Int ∷ []))

@@ -4,49 +4,48 @@ use Rattle.std.specs.Prelude.{◌≡◌, ◌≢◌, ◌≤◌, ℕ, zero, suc, B
 use Rattle.std.specs.List.{sum_by}
 use Rattle.plcx_types.specs.declared.ty.Ty.{Ty}
 use Rattle.plcx_types.specs.declared.ty.Ty.TheVariants as ty
-use Rattle.plcx_types.specs.Name.{folded}
-use Rattle.plcx_types.specs.Range.{InRange}
+use Rattle.plcx_types.specs.Name.{in_lower_case}
 use Rattle.plcx_types.specs.Reserved.{is_listed}
 use Rattle.plcx_types.specs.TypeName.{type_named}
-use Rattle.plcx_types.specs.Value.{Value}
 use Rattle.plcx_std.specs.Kind.{kind_named}
 use Rattle.plcx_meaning.specs.Base.{Each, are_distinct, all_differ}
 use Rattle.plcx_meaning.specs.Tree.{PouKind, Program, Local, InOut, Constant, Expression, Name, Argument, Statement, Assign, Call, If, While, Case, Statements, no_statement, statement, Arms, no_arm, arm, PouText}
-use Rattle.plcx_meaning.specs.Layout.{Variable, variables_of, World, Elementary, Composed, meaning, parts_of, Scope, is_kept}
-use Rattle.plcx_meaning.specs.Execute.{Instance, place, Formal, Takes, Binds, NoFormal, formal, all_bound, block_named, world_of, scope_of}
+use Rattle.plcx_meaning.specs.Layout.{Variable, InitialIsTyped, variables_of, World, Elementary, Composed, meaning, parts_of, Scope, is_kept}
+use Rattle.plcx_meaning.specs.Execute.{Instance, referent, Formal, Takes, Binds, NoFormal, formal, all_bound, block_named, world_of, scope_of}
 use Rattle.plcx_meaning.specs.Typed.{variable_in, part_in, expression_type, IsInRange, can_store, can_bind}
 
 -- the expression has the type, and its literals lie in theirs
-pub record HasType (c : Scope) (e : Expression) (t : Ty) : Type 0 where
+pub record ExpressionIsReady (c : Scope) (e : Expression) (t : Ty) : Type 0 where
   pub typed : expression_type c e ≡ Some t
   pub range : IsInRange e
 
 -- the name means a variable of the type that passes the test
-pub record IsVariable (c : Scope) (x : List ℕ) (t : Ty) (test : Variable → Bool) : Type 0 where
+pub record TargetIsReady (c : Scope) (x : List ℕ) (t : Ty) (test : Variable → Bool) : Type 0 where
   pub variable : Variable
   pub found : variable_in c x ≡ Some variable
   pub typed : type_named variable.ty ≡ Some t
   pub passes : test variable ≡ true
 
 -- an in-out takes a name alone
-abbrev pub IsBinding : Scope → Expression → Ty → Type 0
-IsBinding c (Name x) t = IsVariable c x t can_bind
-IsBinding c _ t = ⊥
+abbrev pub BindingIsReady : Scope → Expression → Ty → Type 0
+BindingIsReady c (Name x) t = TargetIsReady c x t can_bind
+BindingIsReady c _ t = ⊥
 
 -- the value of an argument suits what its formal name is
 abbrev pub ValueIsReady : Scope → Expression → Formal → Type 0
-ValueIsReady c e (Takes t) = HasType c e t
-ValueIsReady c e (Binds t) = IsBinding c e t
+ValueIsReady c e (Takes t) = ExpressionIsReady c e t
+ValueIsReady c e (Binds t) = BindingIsReady c e t
 ValueIsReady c e NoFormal = ⊥
 
 -- an instance is called: each formal name is known, none stands twice, and each in-out of the block has an argument
 pub record CallIsReady (c : Scope) (i : List ℕ) (args : List Argument) : Type 0 where
   pub type : List ℕ
-  pub instance : place c.world (variable_in c i) ≡ Instance type
-  pub distinct : are_distinct (map (λ (a : Argument). folded a.formal) args) ≡ true
+  pub instance : referent c.world (variable_in c i) ≡ Instance type
+  pub distinct : are_distinct (map (λ (a : Argument). in_lower_case a.formal) args) ≡ true
   pub values : Each (λ (a : Argument). ValueIsReady c a.value (formal c.world (part_in c i a.formal))) args
   pub bound : all_bound args (parts_of c.world (variable_in c i)) ≡ true
 
+-- the labels of the arms of a CASE, in order
 abbrev pub labels : Arms → List ℕ
 labels no_arm = []
 labels (arm n ss rest) = n ∷ labels rest
@@ -57,11 +56,11 @@ IsLabel n = n ≤ 2147483647
 
 abbrev mutual
   pub StatementIsReady : Scope → Statement → Type 0
-  StatementIsReady c (Assign x e) = (t : Ty) × IsVariable c x t can_store × HasType c e t
+  StatementIsReady c (Assign x e) = (t : Ty) × TargetIsReady c x t can_store × ExpressionIsReady c e t
   StatementIsReady c (Call i args) = CallIsReady c i args
-  StatementIsReady c (If e ss) = HasType c e ty.Bool × StatementsAreReady c ss
-  StatementIsReady c (While e ss) = HasType c e ty.Bool × StatementsAreReady c ss
-  StatementIsReady c (Case e arms) = HasType c e ty.Dint × Each IsLabel (labels arms) × (all_differ (labels arms) ≡ true) × ArmsAreReady c arms
+  StatementIsReady c (If e ss) = ExpressionIsReady c e ty.Bool × StatementsAreReady c ss
+  StatementIsReady c (While e ss) = ExpressionIsReady c e ty.Bool × StatementsAreReady c ss
+  StatementIsReady c (Case e arms) = ExpressionIsReady c e ty.Dint × Each IsLabel (labels arms) × (all_differ (labels arms) ≡ true) × ArmsAreReady c arms
 
   pub StatementsAreReady : Scope → Statements → Type 0
   StatementsAreReady c no_statement = Unit {0}
@@ -72,17 +71,14 @@ abbrev mutual
   ArmsAreReady c (arm n ss rest) = StatementsAreReady c ss × ArmsAreReady c rest
 
 -- a type that a variable may have: an elementary one, a standard block, or a function block of the unit
-abbrev pub is_known : List PouText → List ℕ → Bool
-is_known unit type = is_some (type_named type) || (is_some (kind_named type) || is_some (block_named type unit))
+abbrev pub unit_knows : List PouText → List ℕ → Bool
+unit_knows unit type = is_some (type_named type) || (is_some (kind_named type) || is_some (block_named type unit))
 
--- an initial value is one of the variable's type, which is elementary
-abbrev pub InitialIsReady : Variable → Type 0
-InitialIsReady v = (value : Value) → v.initial ≡ Some value → (type_named v.ty ≡ Some value.ty) × InRange value.ty value.n
-
+-- a variable has a name that is free and a type that is known, and stands where its type may
 pub record VariableIsReady (unit : List PouText) (kind : PouKind) (v : Variable) : Type 0 where
   pub free : is_listed v.name ≡ false
-  pub known : is_known unit v.ty ≡ true
-  pub initial : InitialIsReady v
+  pub known : unit_knows unit v.ty ≡ true
+  pub initial : InitialIsTyped v
   -- an instance stands in a VAR that is plain or retained
   pub instance : type_named v.ty ≡ None → (v.class ≡ Local) × (v.mark ≢ Constant)
   -- a program has no in-out
@@ -93,9 +89,9 @@ abbrev pub user_block : List PouText → Variable → Option PouText
 user_block unit v = if is_some (type_named v.ty) || is_some (kind_named v.ty) then None else block_named v.ty unit
 
 -- a chain of instances of the unit's function blocks, each declared in the block of the one before, is at most so long
-abbrev pub Nests : ℕ → List PouText → PouText → Type 0
-Nests zero unit p = Each (λ (v : Variable). user_block unit v ≡ None) (variables_of p.blocks)
-Nests (suc n) unit p = Each (λ (v : Variable). (q : PouText) → user_block unit v ≡ Some q → Nests n unit q) (variables_of p.blocks)
+abbrev pub TextNests : ℕ → List PouText → PouText → Type 0
+TextNests zero unit p = Each (λ (v : Variable). user_block unit v ≡ None) (variables_of p.blocks)
+TextNests (suc n) unit p = Each (λ (v : Variable). (q : PouText) → user_block unit v ≡ Some q → TextNests n unit q) (variables_of p.blocks)
 
 -- how many leaves and instances a variable has, itself among them
 abbrev pub variable_size : (List Variable → ℕ) → World → Variable → ℕ
@@ -106,14 +102,16 @@ abbrev pub size : ℕ → World → List Variable → ℕ
 size zero world vs = 0
 size (suc n) world vs = sum_by (variable_size (size n world) world) vs
 
+-- a POU of a unit, with its variables, its body, its chains of instances, and its size
 pub record PouIsReady (unit : List PouText) (p : PouText) : Type 0 where
   pub free : is_listed p.name ≡ false
-  pub distinct : are_distinct (map (λ (v : Variable). folded v.name) (variables_of p.blocks)) ≡ true
+  pub distinct : are_distinct (map (λ (v : Variable). in_lower_case v.name) (variables_of p.blocks)) ≡ true
   pub variables : Each (VariableIsReady unit p.kind) (variables_of p.blocks)
   pub body : Each (StatementIsReady (scope_of unit p)) p.body
-  pub nests : Nests 16 unit p
+  pub nests : TextNests 16 unit p
   pub small : size 18 (world_of unit) (variables_of p.blocks) ≤ 8388608
 
+-- no two POUs of a unit have one name, and each is ready
 pub record IsReady (unit : List PouText) : Type 0 where
-  pub distinct : are_distinct (map (λ (p : PouText). folded p.name) unit) ≡ true
+  pub distinct : are_distinct (map (λ (p : PouText). in_lower_case p.name) unit) ≡ true
   pub pous : Each (PouIsReady unit) unit

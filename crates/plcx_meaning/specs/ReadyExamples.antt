@@ -31,7 +31,13 @@ with_body body = record {
   kind = Program;
   name = codes "Main";
   blocks =
-      plain Local (of_type (codes "A") (codes "BOOL") ∷ of_type (codes "X") (codes "int") ∷ of_type (codes "D") (codes "DINT") ∷ of_type (codes "K") (codes "INC") ∷ of_type (codes "T1") (codes "TON") ∷ [])
+      plain Local
+      (of_type (codes "A") (codes "BOOL")
+      ∷ of_type (codes "X") (codes "int")
+      ∷ of_type (codes "D") (codes "DINT")
+      ∷ of_type (codes "K") (codes "INC")
+      ∷ of_type (codes "T1") (codes "TON")
+      ∷ [])
       ∷ plain Temp (of_type (codes "Y") (codes "INT") ∷ [])
       ∷ [];
   body = body;
@@ -138,7 +144,12 @@ stored_input = record { kind = FunctionBlock; name = codes "F"; blocks = plain I
 
 -- a constant is no target
 abbrev pub stored_constant : List PouText
-stored_constant = record { kind = Program; name = codes "Main"; blocks = record { class = Local; mark = Constant; declarations = of_type (codes "V") (codes "INT") ∷ [] } ∷ []; body = Assign (codes "V") (int 1) ∷ [] } ∷ []
+stored_constant = record {
+  kind = Program;
+  name = codes "Main";
+  blocks = record { class = Local; mark = Constant; declarations = of_type (codes "V") (codes "INT") ∷ [] } ∷ [];
+  body = Assign (codes "V") (int 1) ∷ [];
+} ∷ []
 
 -- a block with an instance of itself
 abbrev pub within_itself : PouText

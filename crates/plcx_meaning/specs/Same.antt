@@ -1,14 +1,14 @@
 -- When two sides behave alike, and when a text does what a diagram does.
 use Rattle.std.specs.Prelude.{◌≡◌, ◌≢◌, ℕ, ℤ, true, List, [], ◌∷◌, Some}
-use Rattle.plcx_types.specs.Name.{folded}
+use Rattle.plcx_types.specs.Name.{in_lower_case}
 use Rattle.plcx_meaning.specs.Base.{Path, is_declared, Memory}
 use Rattle.plcx_meaning.specs.Tree.{PouText}
 use Rattle.plcx_meaning.specs.Layout.{declared_leaves, IsRetainedState}
-use Rattle.plcx_meaning.specs.Run.{Event, Machine, Side, NoStep, tells, after, begin_side, AreEvents}
+use Rattle.plcx_meaning.specs.Run.{Event, Machine, Side, NoStep, tells, after, begin_side, CanFollow}
 use Rattle.plcx_meaning.specs.Diagram.{Pou, Project}
 use Rattle.plcx_meaning.specs.Diagram as diagram
-use Rattle.plcx_meaning.specs.Evaluate.{Diagram, diagram_machine}
-use Rattle.plcx_meaning.specs.Execute.{Run, text_machine}
+use Rattle.plcx_meaning.specs.Evaluate.{DiagramState, diagram_machine}
+use Rattle.plcx_meaning.specs.Execute.{TextState, text_machine}
 use Rattle.plcx_meaning.specs.Execute as text
 use Rattle.plcx_meaning.specs.Templates.{memory_name}
 
@@ -28,7 +28,7 @@ SameRuns m k n (e ∷ es) s t =
 pub record IsSame {G H : Type 0} (m : Machine G) (k : Machine H) : Type 0 where
   pub layouts : declared_leaves m.layout ≡ declared_leaves k.layout
   pub begins : (kept : Path → ℤ) → SameValues m k (begin_side m kept) (begin_side k kept)
-  pub runs : (kept : Path → ℤ) → IsRetainedState m.layout kept → (es : List Event) → AreEvents m.layout 0 es → (turns : ℕ)
+  pub runs : (kept : Path → ℤ) → IsRetainedState m.layout kept → (es : List Event) → CanFollow m (begin_side m kept) es → (turns : ℕ)
       → SameRuns m k turns es (begin_side m kept) (begin_side k kept)
 
 -- each program of the project is one of the unit, and both do the same
@@ -37,12 +37,12 @@ Behaves project unit = (name : List ℕ) (p : Pou) → diagram.program_named nam
     → (q : PouText) × (text.program_named name unit ≡ Some q) × IsSame (diagram_machine project p) (text_machine unit q)
 
 -- a state of a diagram and one of a text agree: on all declared paths, on each memory and its variable, and on the turns that are left
-pub record Agree (d : Diagram) (g : Run) : Type 0 where
+pub record Agree (d : DiagramState) (g : TextState) : Type 0 where
   pub stores : (p : Path) → is_declared p ≡ true → d.store p ≡ g.store p
-  pub memories : (p : Path) (k : Memory) → is_declared p ≡ true → d.memories p k ≡ g.store (folded (memory_name k) ∷ p)
+  pub memories : (p : Path) (k : Memory) → is_declared p ≡ true → d.memories p k ≡ g.store (in_lower_case (memory_name k) ∷ p)
   pub lefts : d.left ≡ g.left
 
 -- their states agree after each event
-abbrev pub AgreeThroughout : Machine Diagram → Machine Run → ℕ → List Event → Side Diagram → Side Run → Type 0
+abbrev pub AgreeThroughout : Machine DiagramState → Machine TextState → ℕ → List Event → Side DiagramState → Side TextState → Type 0
 AgreeThroughout m k n [] s t = Unit {0}
 AgreeThroughout m k n (e ∷ es) s t = Agree (after m n e s).state (after k n e t).state × AgreeThroughout m k n es (after m n e s) (after k n e t)

@@ -13,7 +13,7 @@ use Rattle.plcx_meaning.specs.Base.{Memory, AtEdge, AtOutput}
 use Rattle.plcx_meaning.specs.Tree.{Class, Local, Temp, Mark, Plain, Declaration, Block, Operator, Or, Xor, And, Equal, NotEqual, Less, Greater, LessOrEqual, GreaterOrEqual, Plus, Minus, Times, Divide, Mod, Expression, Number, Name, Member, Apply, Not, Binary, Argument, Statement, Assign, Call, If, While, Case, PouText, expressions, statements, arms}
 use Rattle.plcx_meaning.specs.Functions.{out_type}
 use Rattle.plcx_meaning.specs.Diagram as diagram
-use Rattle.plcx_meaning.specs.Diagram.{Source, Rail, Literal, Wire, Back, Link, Operand, Own, Output, Storing, Stored, Inverted, Set, Reset, Contacting, Open, Closed, RisingContact, FallingContact, Coiling, By, RisingCoil, FallingCoil, Enable, eno_negated, Input, InOut, Output', Kind, Still, In, Out, Contact, Coil, Pass, Label, Jump, Return, Function, Port, port, ports, has_edge, Element, Pou, Project, has_jump}
+use Rattle.plcx_meaning.specs.Diagram.{Source, Rail, Literal, Wire, Back, Link, Operand, Own, Output, Storing, Stored, Inverted, Set, Reset, Contacting, Open, Closed, RisingContact, FallingContact, Coiling, By, RisingCoil, FallingCoil, Enable, eno_negated, InputPin, InOutPin, OutputPin, ElementKind, Still, In, Out, Contact, Coil, Pass, Label, Jump, Return, Function, Port, port, ports, has_edge, DiagramElement, Pou, Project, has_jump}
 use Rattle.plcx_meaning.specs.Evaluate.{leads_to}
 
 -- the name of a pin behind a number; an element that is no block has none
@@ -34,41 +34,52 @@ memory_name (AtOutput id pin) = codes "PLCX_F" ++ (decimal id ++ suffix pin)
 abbrev pub counter_name : List ℕ
 counter_name = codes "PLCX_N"
 
+-- a literal
 abbrev pub number : Ty → ℤ → Expression
 number t n = Number (value t n)
 
+-- TRUE or FALSE
 abbrev pub truth : Bool → Expression
 truth b = number ty.Bool (if b then pos 1 else pos 0)
 
+-- a number of the counter
 abbrev pub dint : ℕ → Expression
 dint n = number ty.Dint (pos n)
 
+-- an expression under NOT, or as it is
 abbrev pub not_if : Bool → Expression → Expression
 not_if true e = Not e
 not_if false e = e
 
+-- AND of two expressions
 abbrev pub both : Expression → Expression → Expression
 both a b = Binary And a b
 
+-- the temporary of a wire, as an expression
 abbrev pub wire : ℕ → List ℕ → Expression
 wire id pin = Name (wire_name id pin)
 
+-- the variable of a memory, as an expression
 abbrev pub memory : Memory → Expression
 memory k = Name (memory_name k)
 
+-- what a source stands for in the type of the pin
 abbrev pub source_text : Ty → Source → Expression
 source_text t Rail = truth true
 source_text t (Literal negated n) = not_if negated (number t n)
 source_text t (Wire id pin) = wire id pin
 source_text t (Back id pin) = memory (AtOutput id pin)
 
+-- the OR of several expressions, from the left
 abbrev pub or_text : Expression → List Expression → Expression
 or_text e [] = e
 or_text e (s ∷ rest) = or_text (Binary Or e s) rest
 
+-- the OR of a link's sources, under NOT where the pin is negated
 abbrev pub link_text : Link → Expression
 link_text link = not_if link.negated (or_text (source_text link.ty link.first) (map (source_text link.ty) link.others))
 
+-- a variable, or an output of an instance
 abbrev pub operand_text : Operand → Expression
 operand_text (Own x) = Name x
 operand_text (Output i x) = Member i x
@@ -80,18 +91,21 @@ store_text Inverted x e = Assign x (Not e)
 store_text Set x e = If e (statements (Assign x (truth true) ∷ []))
 store_text Reset x e = If e (statements (Assign x (truth false) ∷ []))
 
+-- a contact's wire, by its link, its variable and what it remembers
 abbrev pub contact_text : Contacting → Expression → Expression → Expression → Expression
 contact_text Open l v m = both l v
 contact_text Closed l v m = both l (Not v)
 contact_text RisingContact l v m = both (both l v) (Not m)
 contact_text FallingContact l v m = both (both l (Not v)) m
 
+-- a contact at an edge remembers its variable
 abbrev pub contact_edge : Contacting → Memory → Expression → List Statement
 contact_edge Open k v = []
 contact_edge Closed k v = []
 contact_edge RisingContact k v = Assign (memory_name k) v ∷ []
 contact_edge FallingContact k v = Assign (memory_name k) v ∷ []
 
+-- what a coil stores, and at an edge remembers, by its wire
 abbrev pub coil_text : Coiling → List ℕ → Memory → Expression → List Statement
 coil_text (By how) x k w = store_text how x w ∷ []
 coil_text RisingCoil x k w = Assign x (both w (Not (memory k))) ∷ Assign (memory_name k) w ∷ []
@@ -107,11 +121,13 @@ abbrev pub compared : Operator → Expression → Expression → List Expression
 compared op so_far e [] = so_far
 compared op so_far e (next ∷ es) = compared op (both so_far (Binary op e next)) next es
 
+-- each input compared with the next one
 abbrev pub neighbours : Operator → List Expression → Expression
 neighbours op [] = truth true
 neighbours op (e ∷ []) = truth true
 neighbours op (e ∷ next ∷ es) = compared op (Binary op e next) next es
 
+-- the one input under NOT
 abbrev pub negation : List Expression → Expression
 negation [] = truth true
 negation (e ∷ es) = Not e
@@ -139,6 +155,7 @@ function_text f es = Apply (function_name f) (expressions es)
 abbrev pub eno_value : Enable → Option Expression
 eno_value enable = elim enable.en [ Some link ↦ Some (link_text link) | None ↦ option_map (λ negated. truth true) enable.eno ]
 
+-- ENO gets its value where the block has it
 abbrev pub eno_text : ℕ → Enable → List Statement
 eno_text id enable = elim (eno_value enable) [ Some e ↦ Assign (wire_name id (codes "ENO")) e ∷ [] | None ↦ [] ]
 
@@ -155,16 +172,20 @@ turned_if false id pin = []
 abbrev pub out_default : ℕ → Enable → Ty → List Statement
 out_default id enable t = if is_some enable.en then Assign (wire_name id (codes "OUT")) (number t (pos 0)) ∷ [] else []
 
-abbrev pub input_text : Input → Argument
+-- the argument of a connected input
+abbrev pub input_text : InputPin → Argument
 input_text i = record { formal = i.name; value = link_text i.link }
 
-abbrev pub in_out_text : InOut → Argument
+-- the argument of an in-out
+abbrev pub in_out_text : InOutPin → Argument
 in_out_text i = record { formal = i.name; value = Name i.variable }
 
-abbrev pub output_text : ℕ → List ℕ → Output' → Statement
+-- the wire of a listed output gets what the instance stores
+abbrev pub output_text : ℕ → List ℕ → OutputPin → Statement
 output_text id instance o = Assign (wire_name id o.name) (not_if o.negated (Member instance o.name))
 
-abbrev pub kind_text : Kind → ℕ → List Statement
+-- the statements of an element of this number
+abbrev pub kind_text : ElementKind → ℕ → List Statement
 kind_text Still id = []
 kind_text (In t negated operand) id = Assign (wire_name id []) (not_if negated (operand_text operand)) ∷ []
 kind_text (Out how x link) id = store_text how x (link_text link) ∷ []
@@ -183,55 +204,65 @@ kind_text (diagram.Call instance enable inputs in_outs outputs) id =
     eno_text id enable ++ (enabled id enable (Call instance (map input_text inputs ++ map in_out_text in_outs))
     ∷ (map (output_text id instance) outputs ++ turned_if (eno_negated enable) id (codes "ENO")))
 
+-- what feeds back goes to its variable
 abbrev pub feed_text : ℕ → Port → Statement
 feed_text id p = Assign (memory_name (AtOutput id p.pin)) (wire id p.pin)
 
-abbrev pub element_text : Element → List Statement
+-- the statements of an element, and behind them what feeds back
+abbrev pub element_text : DiagramElement → List Statement
 element_text e = kind_text e.kind e.id ++ map (feed_text e.id) e.fed
 
-abbrev pub elements_text : List Element → List Statement
+-- the statements of elements, one after another
+abbrev pub elements_text : List DiagramElement → List Statement
 elements_text es = flat_map element_text es
 
 -- the counter gets where a jump or a return leads
-abbrev pub choice_text : List (List Element) → Element → List Statement
+abbrev pub choice_text : List (List DiagramElement) → DiagramElement → List Statement
 choice_text networks e = elim (leads_to networks e.kind) [ Some n ↦ If (wire e.id []) (statements (Assign counter_name (dint n) ∷ [])) ∷ [] | None ↦ [] ]
 
 -- from the last jump or return to the first, so that the first decides
-abbrev pub choices_text : List (List Element) → List Element → List Statement
+abbrev pub choices_text : List (List DiagramElement) → List DiagramElement → List Statement
 choices_text networks [] = []
 choices_text networks (e ∷ es) = choices_text networks es ++ choice_text networks e
 
-abbrev pub turn_text : List (List Element) → ℕ → List Element → List Statement
+-- a network in a loop: its elements, and then the number of the network that follows
+abbrev pub turn_text : List (List DiagramElement) → ℕ → List DiagramElement → List Statement
 turn_text networks next network = elements_text network ++ (Assign counter_name (dint next) ∷ choices_text networks network)
 
-abbrev pub arms_text : List (List Element) → ℕ → List (List Element) → List (ℕ × List Statement)
+-- an arm for each network, by its number
+abbrev pub arms_text : List (List DiagramElement) → ℕ → List (List DiagramElement) → List (ℕ × List Statement)
 arms_text networks i [] = []
 arms_text networks i (network ∷ rest) = (i, turn_text networks (i + 1) network) ∷ arms_text networks (i + 1) rest
 
-abbrev pub straight_text : List (List Element) → List Statement
+-- a body without jump and return: its networks, one after another
+abbrev pub straight_text : List (List DiagramElement) → List Statement
 straight_text networks = flat_map elements_text networks
 
 -- a loop over a counter, in which each network is an arm
-abbrev pub jumping_text : List (List Element) → List Statement
+abbrev pub jumping_text : List (List DiagramElement) → List Statement
 jumping_text networks =
     Assign counter_name (dint 0)
     ∷ While (Binary Less (Name counter_name) (dint (length networks))) (statements (Case (Name counter_name) (arms (arms_text networks 0 networks)) ∷ []))
     ∷ []
 
-abbrev pub body_text : List (List Element) → List Statement
+-- the statements of a body
+abbrev pub body_text : List (List DiagramElement) → List Statement
 body_text networks = if has_jump networks then jumping_text networks else straight_text networks
 
 -- the compiler's own variables have no address and no initial value
 abbrev pub own : List ℕ → Ty → Declaration
 own name t = record { name = name; address = None; ty = type_name t; initial = None }
 
-abbrev pub element_memories : Element → List Declaration
+-- the variables of what an element remembers: its edge, then what feeds back
+abbrev pub element_memories : DiagramElement → List Declaration
 element_memories e = (if has_edge e.kind then own (memory_name (AtEdge e.id)) ty.Bool ∷ [] else []) ++ map (λ (p : Port). own (memory_name (AtOutput e.id p.pin)) p.ty) e.fed
 
-abbrev pub element_wires : Element → List Declaration
+-- the temporaries of an element's wires
+abbrev pub element_wires : DiagramElement → List Declaration
 element_wires e = map (λ (p : Port). own (wire_name e.id p.pin) p.ty) (ports e.kind)
 
-abbrev pub counter : List (List Element) → List Declaration
+-- the counter of a body with a jump or a return
+abbrev pub counter : List (List DiagramElement) → List Declaration
 counter networks = if has_jump networks then own counter_name ty.Dint ∷ [] else []
 
 -- an empty list has no block
@@ -239,6 +270,7 @@ abbrev pub block : Class → Mark → List Declaration → List Block
 block class mark [] = []
 block class mark (d ∷ ds) = record { class = class; mark = mark; declarations = d ∷ ds } ∷ []
 
+-- a block of the diagram
 abbrev pub list_text : Block → List Block
 list_text b = block b.class b.mark b.declarations
 
@@ -253,5 +285,6 @@ pou_text p = record {
   body = body_text p.networks;
 }
 
+-- the text of a project
 abbrev pub unit_of : Project → List PouText
 unit_of project = map pou_text project

@@ -1,19 +1,26 @@
 -- Structured text without the places of its words. The declarations of a diagram are those of its text.
-use Rattle.std.specs.Prelude.{ℕ, List, [], ◌∷◌, Option}
+use Rattle.std.specs.Prelude.{ℕ, Bool, true, false, List, [], ◌∷◌, Option}
 use Rattle.plcx_types.specs.Value.{Value}
 
 -- what a POU is
 pub data PouKind : Type 0 where
   Program FunctionBlock : PouKind
 
+-- no function block
+abbrev pub is_program : PouKind → Bool
+is_program Program = true
+is_program FunctionBlock = false
+
 -- VAR, VAR_INPUT, VAR_OUTPUT, VAR_IN_OUT, VAR_TEMP
 pub data Class : Type 0 where
   Local Input Output InOut Temp : Class
 
+-- the mark of a block; a list of a diagram that is constant and retain is constant
 pub data Mark : Type 0 where
   Plain Constant Retain : Mark
 
--- a name, its address, the name of its type, and its initial value, which may lie outside the type
+-- A name, its address, the name of its type, and its initial value, which may lie outside the type.
+-- A diagram spells a type as its text prints it: an elementary type and a standard block in capitals, a function block as its POU declares it.
 pub record Declaration : Type 0 where
   pub name : List ℕ
   pub address : Option (List ℕ)

@@ -2,7 +2,7 @@
 use Rattle.std.specs.Prelude.{ℕ, Bool, true, false, not, List, [], ◌∷◌, Option, Some, None, if◌then◌else◌}
 use Rattle.std.specs.Option.{option_map, option_and_then}
 use Rattle.plcx_types.specs.declared.ty.Ty.{Ty}
-use Rattle.plcx_types.specs.Name.{folded}
+use Rattle.plcx_types.specs.Name.{in_lower_case}
 use Rattle.plcx_types.specs.Range.{InRange}
 use Rattle.plcx_funcs.specs.declared.func.Func.{Func}
 use Rattle.plcx_funcs.specs.declared.func.Func.TheVariants as func
@@ -10,22 +10,23 @@ use Rattle.plcx_funcs.specs.Names.{function_named}
 use Rattle.plcx_meaning.specs.Tree.{Class, Input, Output, Temp, Expression, Number, Name, Member, Apply, Not, Binary, Expressions, no_expression, expression}
 use Rattle.plcx_meaning.specs.Layout.{Variable, variable_named, World, Meaning, Elementary, Composed, meaning, parts_of, Scope, is_constant}
 use Rattle.plcx_meaning.specs.Functions.{group_of, can_apply, out_type}
-use Rattle.plcx_meaning.specs.Execute.{Place, Temporary, Kept, Bound, Instance, Unknown, place, function_of}
+use Rattle.plcx_meaning.specs.Execute.{Referent, Temporary, Kept, Bound, Instance, Unknown, referent, function_of}
 
 -- the variable that a name means in a POU
 abbrev pub variable_in : Scope → List ℕ → Option Variable
-variable_in c x = variable_named (folded x) c.own
+variable_in c x = variable_named (in_lower_case x) c.own
 
 -- and one of the instance that a name means
 abbrev pub part_in : Scope → (instance part : List ℕ) → Option Variable
-part_in c i x = variable_named (folded x) (parts_of c.world (variable_in c i))
+part_in c i x = variable_named (in_lower_case x) (parts_of c.world (variable_in c i))
 
-abbrev pub place_type : Place → Option Ty
-place_type (Temporary t) = Some t
-place_type (Kept t) = Some t
-place_type (Bound t) = Some t
-place_type (Instance type) = None
-place_type Unknown = None
+-- the type of what can be read under a name
+abbrev pub referent_type : Referent → Option Ty
+referent_type (Temporary t) = Some t
+referent_type (Kept t) = Some t
+referent_type (Bound t) = Some t
+referent_type (Instance type) = None
+referent_type Unknown = None
 
 -- what can be read of an instance: its outputs
 abbrev pub read_type : Meaning → Class → Option Ty
@@ -33,6 +34,7 @@ read_type (Elementary t) Output = Some t
 read_type (Elementary t) _ = None
 read_type (Composed vs) class = None
 
+-- the type of what is read of an instance, where that is an output
 abbrev pub member_type : World → Option Variable → Option Ty
 member_type world None = None
 member_type world (Some v) = read_type (meaning world v.ty) v.class
@@ -60,9 +62,11 @@ is_operator _ = false
 abbrev pub type_at : Func → List Ty → Ty → Option Ty
 type_at f types t = if can_apply f t types then Some (out_type f t) else None
 
+-- the type of what a function gives for inputs of these types
 abbrev pub result_type : Func → List Ty → Option Ty
 result_type f types = option_and_then (type_at f types) (group_of f types)
 
+-- and one that is called by its name, which one of an operator is not
 abbrev pub call_type : Option Func → List Ty → Option Ty
 call_type None types = None
 call_type (Some f) types = if is_operator f then None else result_type f types
@@ -71,7 +75,7 @@ call_type (Some f) types = if is_operator f then None else result_type f types
 abbrev mutual
   pub expression_type : Scope → Expression → Option Ty
   expression_type c (Number v) = Some v.ty
-  expression_type c (Name x) = place_type (place c.world (variable_in c x))
+  expression_type c (Name x) = referent_type (referent c.world (variable_in c x))
   expression_type c (Member i x) = member_type c.world (part_in c i x)
   expression_type c (Apply f es) = option_and_then (call_type (function_named f)) (expression_types c es)
   expression_type c (Not e) = option_and_then (λ t. result_type func.Not (t ∷ [])) (expression_type c e)

@@ -1,18 +1,20 @@
 //! Worked examples: a diagram and its text have the trace that is written beside them, which neither was taken from.
-ghost use Rattle.std.specs.Prelude.{◌≡◌, ◌≢◌, pos, List, [], ◌∷◌};
-ghost use Rattle.plcx_meaning.specs.Layout.{IsRetainedState};
+ghost use Rattle.std.specs.Prelude.{◌≡◌, ◌≢◌, pos, List, [], ◌∷◌, map};
+ghost use Rattle.plcx_meaning.specs.Layout.{Leaf, initial_in, IsRetainedState};
 ghost use Rattle.plcx_meaning.specs.Run.{AreEvents};
 ghost use Rattle.plcx_meaning.specs.Evaluate.{diagram_machine};
 ghost use Rattle.plcx_meaning.specs.Fits.{ProjectFits};
 ghost use Rattle.plcx_meaning.specs.Execute.{text_machine};
-ghost use Rattle.plcx_meaning.specs.Templates.{pou_text};
-ghost use Rattle.plcx_meaning.specs.Traces.{trace, diagram_trace, text_trace};
+ghost use Rattle.plcx_meaning.specs.Templates.{pou_text, unit_of};
+ghost use Rattle.plcx_meaning.specs.Traces.{trace_with, trace, diagram_trace, text_trace};
 ghost use Rattle.plcx_meaning.specs.ExampleRungs.{document_order, document_order_events, document_order_trace, motor, motor_blocks, motor_events, motor_statements, motor_trace, variable_for_wire, wire_past_a_write, wire_past_a_write_events, wire_past_a_write_trace};
 ghost use Rattle.plcx_meaning.specs.ExampleFeedback.{counting, counting_blocks, counting_events, counting_statements, counting_trace, disabled, disabled_events, disabled_trace, feedback_pair, feedback_pair_events, feedback_pair_trace, saturating, saturating_events, saturating_trace};
 ghost use Rattle.plcx_meaning.specs.ExampleLoops.{calls_a_loop, calls_a_loop_trace, disabled_in_a_loop, disabled_in_a_loop_trace, first_jump_decides, first_jump_decides_trace, loop, loop_block, loop_blocks, loop_no_turn_trace, loop_one_turn_less_trace, loop_statements, loop_trace, nested_loop, nested_loop_one_turn_less_trace, nested_loop_trace, one_scan, two_scans};
 ghost use Rattle.plcx_meaning.specs.ExampleBlocks.{delay, delay_events, delay_trace, division, edge_block, edge_block_blocks, edge_block_statements, fault_in_a_block, fault_in_a_block_events, fault_in_a_block_trace, retained_edge, retained_edge_events, retained_edge_trace, two_calls, two_calls_trace};
 ghost use Rattle.plcx_meaning.specs.ExamplePins.{edges, edges_events, edges_trace, enabled_block, enabled_block_events, enabled_block_statements, enabled_block_trace, negated_pins, negated_pins_events, negated_pins_trace, next, returning, returning_events, returning_trace};
+ghost use Rattle.plcx_meaning.specs.ExampleStarts.{both_restarts, idle, idle_trace, one_scan_at_start, paths, seven, seven_trace, spelled_so, spellings};
 ghost use Rattle.plcx_meaning.specs.ExampleInOuts.{binding, binding_trace, binds, binds_statements, handing_on, handing_on_trace, hands_on, one_variable_twice, sharing, sharing_trace};
+ghost use Rattle.plcx_meaning.specs.ExampleWatch.{cut_loop_heard, enabled_block_heard, fault_and_restart_events, fault_and_restart_heard, heard_from_start, motor_heard, watched_loop, whole_loop_heard};
 
 /// Contacts and coils: a motor that holds itself, networks in the order of the document, and a coil that writes the variable of a contact.
 pub fn examples_of_rungs()
@@ -101,10 +103,32 @@ pub fn examples_of_pins()
     ensures returning_text { text_trace (returning ∷ []) returning 1 returning_events ≡ returning_trace }
 {}
 
-/// What the law presumes can be met, also by a program that calls a block with a jump.
+/// Where no retained state is given a trace begins from the initial values. Leaves are spelled as they are declared, and have paths without case.
+pub fn examples_of_starts()
+    ensures idle_diagram { diagram_trace (idle ∷ []) idle 1000 one_scan_at_start ≡ idle_trace }
+    ensures idle_text { text_trace (idle ∷ []) idle 1000 one_scan_at_start ≡ idle_trace }
+    ensures seven_diagram { trace_with (diagram_machine (idle ∷ []) idle) (seven (diagram_machine (idle ∷ []) idle)) 1000 both_restarts ≡ seven_trace }
+    ensures seven_text { trace_with (text_machine (unit_of (idle ∷ [])) (pou_text idle)) (seven (text_machine (unit_of (idle ∷ [])) (pou_text idle))) 1000 both_restarts ≡ seven_trace }
+    ensures spellings { map (λ (leaf : Leaf). leaf.spelled) (diagram_machine (spelled_so ∷ []) spelled_so).layout ≡ spellings }
+    ensures paths { map (λ (leaf : Leaf). leaf.path) (diagram_machine (spelled_so ∷ []) spelled_so).layout ≡ paths }
+{}
+
+/// What the law presumes can be met, also by a program that calls a block with a jump, and by one with feedback.
 pub fn examples_that_fit()
     ensures motor { ProjectFits (motor ∷ []) }
     ensures motor_events { AreEvents (diagram_machine (motor ∷ []) motor).layout 0 motor_events }
     ensures nested_loop { ProjectFits (nested_loop ∷ loop_block ∷ []) }
+    ensures counting { ProjectFits (counting ∷ []) }
     ensures saturating { IsRetainedState (diagram_machine (saturating ∷ []) saturating).layout (λ p. pos 0) }
+    ensures idle { IsRetainedState (diagram_machine (idle ∷ []) idle).layout (initial_in (diagram_machine (idle ∷ []) idle).layout) }
+{}
+
+/// What a watch hears: each output of an element that was evaluated to its end, those of a called block before those of its call.
+/// What was heard before a fault or a cut stays heard, and the call that it came in isn't.
+pub fn examples_of_watches()
+    ensures motor { heard_from_start (motor ∷ []) motor 1000 motor_events ≡ motor_heard }
+    ensures enabled_block { heard_from_start (enabled_block ∷ next ∷ []) enabled_block 1000 enabled_block_events ≡ enabled_block_heard }
+    ensures fault_and_restart { heard_from_start (division ∷ fault_in_a_block ∷ []) fault_in_a_block 1000 fault_and_restart_events ≡ fault_and_restart_heard }
+    ensures whole_loop { heard_from_start (watched_loop ∷ loop_block ∷ []) watched_loop 15 one_scan ≡ whole_loop_heard }
+    ensures cut_loop { heard_from_start (watched_loop ∷ loop_block ∷ []) watched_loop 5 one_scan ≡ cut_loop_heard }
 {}

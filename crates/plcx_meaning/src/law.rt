@@ -1,48 +1,78 @@
 //! Laws of the definitions, each on a function of its own.
-ghost use Rattle.std.specs.Prelude.{◌≡◌, ◌+◌, ℕ, ℤ, Bool, List, Some, true, slice_get, if◌then◌else◌};
-ghost use Rattle.plcx_meaning.specs.Base.{Path, Site, Outcome, Ended, then_do, spend, Each};
-ghost use Rattle.plcx_meaning.specs.Tree.{Expression, Statement, While, Statements, PouText};
-ghost use Rattle.plcx_meaning.specs.Layout.{Variable, Scope, layout, IsOutside, IsRetainedState};
-ghost use Rattle.plcx_meaning.specs.Traces.{trace_from};
-ghost use Rattle.plcx_meaning.specs.Run.{Input, Event, Scan, Machine, Side, after, begin_side, AreEvents};
-ghost use Rattle.plcx_meaning.specs.Diagram.{Element, Pou, Project, program_named};
-ghost use Rattle.plcx_meaning.specs.Evaluate.{Diagram, no_wires, elements_do, successor, at_network, jumping, Setting, with_standard, blocks_do, program_does, diagram_machine};
-ghost use Rattle.plcx_meaning.specs.Execute.{Run, Frame, Here, with_truth, value_of, run_statement, run_statements, run_list, blocks_run, program_runs, text_machine};
+ghost use Rattle.std.specs.Prelude.{◌≡◌, ℕ, List, true};
+ghost use Rattle.plcx_meaning.specs.Base.{Each};
+ghost use Rattle.plcx_meaning.specs.Tree.{Expression, Statements, PouText};
+ghost use Rattle.plcx_meaning.specs.Layout.{Scope, Leaf, layout, initial_in, IsLayout, IsSpelled, IsOutside, IsRetainedState};
+ghost use Rattle.plcx_meaning.specs.Run.{Input, Event, Scan, Machine, Side, after, last_after};
+ghost use Rattle.plcx_meaning.specs.Diagram.{DiagramElement, Pou, Project};
+ghost use Rattle.plcx_meaning.specs.Evaluate.{Heard, DiagramState, DiagramSetting, program_does, scope_of};
+ghost use Rattle.plcx_meaning.specs.Watch.{earlier, heard_earlier};
+ghost use Rattle.plcx_meaning.specs.Execute.{TextState, TextSetting, program_runs};
 ghost use Rattle.plcx_meaning.specs.Execute as text;
-ghost use Rattle.plcx_meaning.specs.Templates.{pou_text, unit_of};
+ghost use Rattle.plcx_meaning.specs.Templates.{unit_of};
 ghost use Rattle.plcx_meaning.specs.Fits.{ProjectFits};
-ghost use Rattle.plcx_meaning.specs.Same.{Behaves, AgreeThroughout};
+ghost use Rattle.plcx_meaning.specs.Ready.{IsReady};
+ghost use Rattle.plcx_meaning.specs.Same.{Behaves};
 ghost use Rattle.plcx_meaning.specs.Turns.{LeavesAtMost};
+ghost use Rattle.plcx_meaning.specs.Laws.{OfPrograms, StatesAgree, TracesAgree, StartsAgree, JumpingUnfolds, WhileUnfolds, diagram_calls, text_calls, StatementsLower, ElementsHear, CallsHear};
 
 /// The text of a project that fits does what the project does: for every program, retained state, list of scans and restarts, and budget.
-/// Both tell the same after each event, which is a step, with the same values on all declared paths; and what either keeps agrees throughout, the memories of each instance and the turns that are left included.
+/// Both tell the same after each event, which is a step, with the same values on all declared paths.
+/// What either keeps agrees throughout, the memories of each instance and the turns that are left included.
 /// So both have the same trace: what is told and shown after each event, and what is retained at the end.
+/// That holds also where no retained state is given, and each begins from the initial values of its own leaves.
 pub fn same_behavior()
     ensures behaves { (project : Project) → ProjectFits project → Behaves project (unit_of project) }
-    ensures agrees { (project : Project) → ProjectFits project → (name : List ℕ) (p : Pou) → program_named name project ≡ Some p → (kept : Path → ℤ) (es : List Event) → AreEvents (diagram_machine project p).layout 0 es → (turns : ℕ) → AgreeThroughout (diagram_machine project p) (text_machine (unit_of project) (pou_text p)) turns es (begin_side (diagram_machine project p) kept) (begin_side (text_machine (unit_of project) (pou_text p)) kept) }
-    ensures traces { (project : Project) → ProjectFits project → (name : List ℕ) (p : Pou) → program_named name project ≡ Some p → (kept : Path → ℤ) → IsRetainedState (diagram_machine project p).layout kept → (es : List Event) → AreEvents (diagram_machine project p).layout 0 es → (turns : ℕ) → trace_from (diagram_machine project p) turns es (begin_side (diagram_machine project p) kept) ≡ trace_from (text_machine (unit_of project) (pou_text p)) turns es (begin_side (text_machine (unit_of project) (pou_text p)) kept) }
+    ensures agrees { OfPrograms StatesAgree }
+    ensures traces { OfPrograms TracesAgree }
+    ensures starts { OfPrograms StartsAgree }
 {}
 
-/// A scan of a side that is halted changes nothing.
+/// A scan of a side that is halted changes nothing but the time of the last scan.
 pub fn halting()
-    ensures diagram { (m : Machine Diagram) (turns time : ℕ) (inputs : List Input) (s : Side Diagram) → s.halted ≡ true → after m turns (Scan time inputs) s ≡ s }
-    ensures text { (m : Machine Run) (turns time : ℕ) (inputs : List Input) (s : Side Run) → s.halted ≡ true → after m turns (Scan time inputs) s ≡ s }
+    ensures diagram { (m : Machine DiagramState) (turns time : ℕ) (inputs : List Input) (s : Side DiagramState) → s.halted ≡ true → after m turns (Scan time inputs) s ≡ record s { last = time } }
+    ensures text { (m : Machine TextState) (turns time : ℕ) (inputs : List Input) (s : Side TextState) → s.halted ≡ true → after m turns (Scan time inputs) s ≡ record s { last = time } }
+{}
+
+/// The time of the last scan is set by each scan, also of a side that is halted, and kept by restarts.
+pub fn times_of_scans()
+    ensures diagram { (m : Machine DiagramState) (turns : ℕ) (e : Event) (s : Side DiagramState) → (after m turns e s).last ≡ last_after s.last e }
+    ensures text { (m : Machine TextState) (turns : ℕ) (e : Event) (s : Side TextState) → (after m turns e s).last ≡ last_after s.last e }
 {}
 
 /// Neither side makes more turns, however a piece of a scan comes out.
 pub fn turns_never_grow()
-    ensures diagram { (time : ℕ) (project : Project) (p : Pou) (d : Diagram) → LeavesAtMost (λ e. e.left) d.left (program_does time project p d) }
-    ensures text { (time : ℕ) (unit : List PouText) (p : PouText) (g : Run) → LeavesAtMost (λ h. h.left) g.left (program_runs time unit p g) }
-    ensures statements { (n time : ℕ) (unit : List PouText) (c : Here) (ss : List Statement) (g : Run) (f : Frame) → LeavesAtMost (λ h. h.left) g.left (run_list ss c (text.with_standard time (blocks_run n time unit)) g f) }
+    ensures diagram { (time : ℕ) (project : Project) (p : Pou) (d : DiagramState) → LeavesAtMost (λ e. e.left) d.left (program_does time project p d) }
+    ensures text { (time : ℕ) (unit : List PouText) (p : PouText) (g : TextState) → LeavesAtMost (λ h. h.left) g.left (program_runs time unit p g) }
+    ensures statements { (n time : ℕ) (unit : List PouText) → StatementsLower (text_calls n time unit) }
 {}
 
 /// A loop is its test, one turn, and the loop again; and so is a body with jumps from a network on. The numbers that bound the recursions of the definitions never show.
 pub fn loops()
-    ensures diagram { (n time : ℕ) (project : Project) (networks : List (List Element)) (c : Setting) → c.called ≡ with_standard time (blocks_do n time project) → (i : ℕ) (d : Diagram) → jumping d.left networks c i d ≡ at_network (slice_get networks i) d (λ network. spend d.left d (λ left. then_do (elements_do network c (record d { left = left }) no_wires) (λ e ws. jumping e.left networks c (successor networks network (i + 1) ws) e))) }
-    ensures text { (n time : ℕ) (unit : List PouText) (c : Here) (e : Expression) (ss : Statements) (g : Run) (f : Frame) → run_statement (While e ss) c (text.with_standard time (blocks_run n time unit)) g f ≡ with_truth (value_of e c g.store f) g (λ b. if b then spend g.left g (λ left. then_do (run_statements ss c (text.with_standard time (blocks_run n time unit)) (record g { left = left }) f) (run_statement (While e ss) c (text.with_standard time (blocks_run n time unit)))) else Ended g f) }
+    ensures diagram { (n time : ℕ) (project : Project) (networks : List (List DiagramElement)) (c : DiagramSetting) → c.called ≡ diagram_calls n time project → JumpingUnfolds networks c }
+    ensures text { (n time : ℕ) (unit : List PouText) (c : TextSetting) (e : Expression) (ss : Statements) → WhileUnfolds c (text_calls n time unit) e ss }
 {}
 
 /// Whoever sets or shows leaves meets declared ones alone, and so no variable that the compiler keeps for itself.
 pub fn outside_leaves()
     ensures { (c : Scope) → Each IsOutside (layout c) }
+{}
+
+/// Each leaf is spelled as its names are declared: without case that is its path.
+pub fn spelled_leaves()
+    ensures { (c : Scope) → Each IsSpelled (layout c) }
+{}
+
+/// No two leaves of a program have one path, and each begins with a number of its type; so the initial values are a retained state.
+pub fn distinct_leaves()
+    ensures diagrams { (project : Project) → ProjectFits project → Each (λ p. IsLayout (layout (scope_of project p))) project }
+    ensures texts { (unit : List PouText) → IsReady unit → Each (λ p. IsLayout (layout (text.scope_of unit p))) unit }
+    ensures initial { (ls : List Leaf) → IsLayout ls → IsRetainedState ls (initial_in ls) }
+{}
+
+/// What a watch hears changes nothing else: a piece of a scan does the same whatever was heard before it, and adds to that what it tells.
+pub fn hearing()
+    ensures program { (time : ℕ) (project : Project) (p : Pou) (hs : List Heard) (d : DiagramState) → program_does time project p (earlier hs d) ≡ heard_earlier hs (program_does time project p d) }
+    ensures blocks { (n time : ℕ) (project : Project) → CallsHear (diagram_calls n time project) }
+    ensures elements { (n time : ℕ) (project : Project) (c : DiagramSetting) → c.called ≡ diagram_calls n time project → ElementsHear c }
 {}

@@ -1,18 +1,17 @@
 //! Which texts are ready, and what that is worth.
-ghost use Rattle.std.specs.Prelude.{◌≡◌, ◌≢◌, ℕ, List, [], ◌∷◌, Some};
-ghost use Rattle.plcx_meaning.specs.Base.{Stuck};
+ghost use Rattle.std.specs.Prelude.{◌≡◌, ℕ, List, [], ◌∷◌, Some};
 ghost use Rattle.plcx_meaning.specs.Tree.{PouText};
-ghost use Rattle.plcx_meaning.specs.Run.{Input};
-ghost use Rattle.plcx_meaning.specs.Execute.{Run, text_machine, program_named};
+ghost use Rattle.plcx_meaning.specs.Execute.{program_named};
 ghost use Rattle.plcx_meaning.specs.Diagram.{Project};
 ghost use Rattle.plcx_meaning.specs.Templates.{unit_of};
 ghost use Rattle.plcx_meaning.specs.Fits.{ProjectFits};
 ghost use Rattle.plcx_meaning.specs.Ready.{IsReady};
+ghost use Rattle.plcx_meaning.specs.Laws.{NeverStuck};
 ghost use Rattle.plcx_meaning.specs.ReadyExamples.{ready_unit, unbound, bound_to_number, bound_to_temporary, undeclared, undeclared_target, mistyped, no_condition, operator_called, input_read, equal_labels, large_label, formal_twice, formal_unknown, out_of_range, declared_twice, listed_name, wrong_initial, stored_constant, instance_as_input, program_in_out, unknown_type, stored_input, within_itself};
 
 /// A scan of a program of a ready unit has a meaning, whatever its store holds, at every time and budget.
 pub fn never_stuck()
-    ensures { (unit : List PouText) → IsReady unit → (name : List ℕ) (p : PouText) → program_named name unit ≡ Some p → (turns time : ℕ) (inputs : List Input) (g : Run) → (text_machine unit p).scan turns time inputs g ≢ Stuck }
+    ensures { (unit : List PouText) → IsReady unit → (name : List ℕ) (p : PouText) → program_named name unit ≡ Some p → NeverStuck unit p }
 {}
 
 /// The text of a project that fits is ready.

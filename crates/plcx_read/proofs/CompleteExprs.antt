@@ -6,17 +6,16 @@ use Rattle.plcx_lex.specs.Token.{Token}
 use Rattle.plcx_lex.specs.Number.{IsLiteral}
 use Rattle.plcx_lex.specs.ReadNumber.{literal_of}
 use Rattle.plcx_lex.proofs.Numbers.{literal_reads}
-use Rattle.plcx_st.specs.declared.terminal.Terminal.{Terminal}
-use Rattle.plcx_st.specs.declared.terminal.Terminal.TheVariants as t
-use Rattle.plcx_st.specs.Terminal.{terminal}
-use Rattle.plcx_st.specs.Place.{Fault, TooDeep}
+use Rattle.plcx_lex.specs.declared.terminal.Terminal.{Terminal}
+use Rattle.plcx_lex.specs.declared.terminal.Terminal.TheVariants as t
+use Rattle.plcx_lex.specs.Terminal.{terminal}
 use Rattle.plcx_st.specs.declared.tree.Op.{Op}
 use Rattle.plcx_st.specs.declared.tree.Op.TheVariants as op
 use Rattle.plcx_st.specs.declared.tree.Expr.{Expr}
 use Rattle.plcx_st.specs.declared.tree.Expr.TheVariants as e
 use Rattle.plcx_st.specs.Grammar.{word, number, operator, level, tightest, IsExpr, AreExprs, literal, name, member, call, bracket, negation, binary, one_expr, more_exprs}
 use Rattle.plcx_read.specs.Reading as spec
-use Rattle.plcx_read.specs.Reading.{Out, Read, ◌>>=◌, next, sees, same, expect, room, room_told, name_at, literal_at, with_literal, parted, list_of, several, bracketed, negated, valued, named_by, operand_by, operand, climb, level_of, expr, next_operator, binding, with_operator}
+use Rattle.plcx_read.specs.Reading.{Stop, too_deep, Out, Read, ◌>>=◌, next, sees, same, expect, room, room_told, name_at, literal_at, with_literal, parted, list_of, several, bracketed, negated, valued, named_by, operand_by, operand, climb, level_of, expr, next_operator, binding, with_operator}
 use Rattle.plcx_read.proofs.Singles.{sees_it, expects, parted_last, parted_more}
 
 -- ---- operators
@@ -64,7 +63,7 @@ pub same_operators : {A : Type 0} (m : Option Op) (stop : A) (f g : Op → A) �
 same_operators None stop f g h = refl
 same_operators (Some o) stop f g h = h o
 
-pub same_reads : {A B : Type 0} (r : Result A Fault) (f g : A → Result B Fault) → ((x : A) → f x ≡ g x) → (r >>= f) ≡ (r >>= g)
+pub same_reads : {A B : Type 0} (r : Result A Stop) (f g : A → Result B Stop) → ((x : A) → f x ≡ g x) → (r >>= f) ≡ (r >>= g)
 same_reads (Ok x) f g h = h x
 same_reads (Err d) f g h = refl
 
@@ -80,14 +79,14 @@ module _ (a : ℕ) (inner : ℕ → List Token → Out Expr) where
       same_operators (next_operator least ts) _ _ _ (λ o. rw deep refl)
   climb_turns (suc f) (suc g) least left depth ts p q =
       same_operators (next_operator least ts) _ _ _ (λ o.
-      ap (λ (r : Out Expr). cond (ltb a depth) (Err (TooDeep (length ts))) r)
+      ap (λ (r : Out Expr). cond (ltb a depth) (Err (too_deep, ts)) r)
       (same_reads (inner (level o + 1) (drop 1 ts)) _ _ (λ x. climb_turns f g least (e.Binary o left x.0) (max depth x.1 + 1) x.2 (omega arith) (omega arith))))
 
 -- ---- behind an expression
 
 -- what reading goes on with behind an expression
 abbrev pub onward : ℕ → ℕ → Expr → ℕ → List Token → Out Expr
-onward zero least x d ts = Err (TooDeep 0)
+onward zero least x d ts = Err (too_deep, [])
 onward (suc a) least x d ts = climb a (expr a) (a + 1) least x d ts
 
 pub onward_stops : (a least : ℕ) (x : Expr) (d : ℕ) (ts : List Token) → next_operator least ts ≡ None → onward (suc a) least x d ts ≡ Ok (x, d, ts)
@@ -164,10 +163,10 @@ unfolding room
 has_room zero ts pos = absurd (omega arith)
 has_room (suc a) ts pos = refl
 
-pub has_room_told : (a : ℕ) (ts : List Token) → 0 < a → room_told a ts ≡ Ok tt
+pub has_room_told : (a : ℕ) (w : Token) (ts : List Token) → 0 < a → room_told a w ts ≡ Ok tt
 unfolding room_told
-has_room_told zero ts pos = absurd (omega arith)
-has_room_told (suc a) ts pos = refl
+has_room_told zero w ts pos = absurd (omega arith)
+has_room_told (suc a) w ts pos = refl
 
 pub reads_not : (a : ℕ) (w : Token) (ts : List Token) (x : Expr) (d : ℕ) (rest : List Token) → terminal w ≡ t.Not → 0 < a → expr a tightest ts ≡ Ok (x, d, rest)
     → operand a (expr a) (w ∷ ts) ≡ Ok (e.Not x w.span, suc d, rest)
@@ -187,7 +186,7 @@ pub reads_call : (a : ℕ) (f b : Token) (ts : List Token) (es : List Expr) (d :
     → operand a (expr a) (f ∷ b ∷ ts) ≡ Ok (e.Call (word f) es, suc d, rest)
 unfolding spec.call
 reads_call a f b ts es d rest is opens pos h =
-    let r : spec.call a (expr a) f (b ∷ ts) ≡ Ok (e.Call (word f) es, suc d, rest) = rw (has_room_told a (b ∷ ts) pos, h, add-one) refl in
+    let r : spec.call a (expr a) f (b ∷ ts) ≡ Ok (e.Call (word f) es, suc d, rest) = rw (has_room_told a f (b ∷ ts) pos, h, add-one) refl in
     by_terminal a (expr a) t.Name f (b ∷ ts) is ∙ ap (λ q. named_by a (expr a) q f (b ∷ ts)) opens ∙ r
 
 -- ---- depth and length

@@ -2,9 +2,9 @@
 use Rattle.std.proofs.Common.{◌≡◌, ℕ, zero, suc, ◌+◌, ◌≤◌, ◌<◌, true, false, max, add-one, length-append, List, [], ◌∷◌, ◌++◌, length, None, Ok, refl, sym, ap, ◌∙◌, append_assoc, arith}
 use Rattle.std.proofs.lemmas.List.{append-nil}
 use Rattle.plcx_lex.specs.Token.{Token}
-use Rattle.plcx_st.specs.declared.terminal.Terminal.{Terminal}
-use Rattle.plcx_st.specs.declared.terminal.Terminal.TheVariants as t
-use Rattle.plcx_st.specs.Terminal.{terminal}
+use Rattle.plcx_lex.specs.declared.terminal.Terminal.{Terminal}
+use Rattle.plcx_lex.specs.declared.terminal.Terminal.TheVariants as t
+use Rattle.plcx_lex.specs.Terminal.{terminal}
 use Rattle.plcx_st.specs.declared.tree.Expr.{Expr}
 use Rattle.plcx_st.specs.declared.tree.Arg.{Arg}
 use Rattle.plcx_st.specs.declared.tree.Arm.{Arm}
@@ -72,7 +72,7 @@ by_sign b inner q w a ts named is = by_terminal b inner t.Name w (a ∷ ts) name
 
 reads_assigned : (b : ℕ) (w a z : Token) (ts : List Token) (x : Expr) (d : ℕ) (rest : List Token) → terminal z ≡ t.Semicolon → 0 < b → expr b 0 ts ≡ Ok (x, d, z ∷ rest) → assigned b w (a ∷ ts) ≡ Ok (s.Assign (word w) x, suc d, rest)
 unfolding assigned
-reads_assigned b w a z ts x d rest semi pos h = rw (has_room_told b (a ∷ ts) pos, h, expects t.Semicolon z rest semi, add-one) refl
+reads_assigned b w a z ts x d rest semi pos h = rw (has_room_told b w (a ∷ ts) pos, h, expects t.Semicolon z rest semi, add-one) refl
 
 reads_bare : (b : ℕ) (w c z : Token) (rest : List Token) → terminal c ≡ t.Close → terminal z ≡ t.Semicolon → called b w (c ∷ z ∷ rest) ≡ Ok (s.Call (word w) [], 1, rest)
 unfolding called_bare

@@ -1,10 +1,9 @@
 -- What was read in front of a fault in a statement.
 use Rattle.std.proofs.Common.{◌≡◌, ℕ, zero, suc, ◌+◌, ◌≤◌, ◌<◌, true, false, cond, max, List, [], ◌∷◌, ◌++◌, length, drop, Ok, Err, refl, sym, ap, subst, ◌∙◌, arith, inl, inr, ◌⊎◌, add-one}
 use Rattle.plcx_lex.specs.Token.{Token}
-use Rattle.plcx_st.specs.declared.terminal.Terminal.{Terminal}
-use Rattle.plcx_st.specs.declared.terminal.Terminal.TheVariants as t
-use Rattle.plcx_st.specs.Terminal.{terminal}
-use Rattle.plcx_st.specs.Place.{Fault, Syntax, TooDeep, DeepName}
+use Rattle.plcx_lex.specs.declared.terminal.Terminal.{Terminal}
+use Rattle.plcx_lex.specs.declared.terminal.Terminal.TheVariants as t
+use Rattle.plcx_lex.specs.Terminal.{terminal}
 use Rattle.plcx_st.specs.Grammar.{word, label, IsExpr, IsArg, AreArgs, IsStmt, AreStmts, AreArms}
 use Rattle.plcx_st.specs.Grammar as g
 use Rattle.plcx_st.specs.declared.tree.Expr.{Expr}
@@ -12,7 +11,7 @@ use Rattle.plcx_st.specs.declared.tree.Arg.{Arg}
 use Rattle.plcx_st.specs.declared.tree.Arm.{Arm}
 use Rattle.plcx_st.specs.declared.tree.Stmt.{Stmt}
 use Rattle.plcx_st.specs.declared.tree.Stmt.TheVariants as s
-use Rattle.plcx_read.specs.Reading.{Out, Read, ◌>>=◌, ◌>>◌, same, next, sees, expect, room, room_told, several, all_of, list_of, parted, expr, begins_stmt, is_digits, closed, assigned, argument, called_with, called_bare, called, named_stmt_by, head, conditional, repeated, arm, selected, statement_by, statement_of, statement}
+use Rattle.plcx_read.specs.Reading.{Stop, syntax, too_deep, told_too_deep, Out, Read, ◌>>=◌, ◌>>◌, same, next, sees, expect, room, room_told, several, all_of, list_of, parted, expr, begins_stmt, is_digits, closed, assigned, argument, called_with, called_bare, called, named_stmt_by, head, conditional, repeated, arm, selected, statement_by, statement_of, statement}
 use Rattle.plcx_read.proofs.Steady.{Reader, done, refuse, fault_is, never_both, bind_err}
 use Rattle.plcx_read.proofs.SteadyLoops.{Eats}
 use Rattle.plcx_read.proofs.SteadyStmts.{good, arms_eat}
@@ -57,7 +56,7 @@ begins_other q no' x yes' is = let bad : true ≡ false = sym yes' ∙ ap begins
 value_takes : (b : ℕ) (ts : List Token) (x : Read Expr) → expr b 0 ts ≡ Ok x → Takes (Exprs 0) b ts x.2
 value_takes b ts x h = takes (IsExpr 0) b ts x (value_sound b ts x h)
 
-value_fails : (b : ℕ) (ts : List Token) (f : Fault) → 0 < b → expr b 0 ts ≡ Err f → Completes NoName (Exprs 0) b ts f
+value_fails : (b : ℕ) (ts : List Token) (f : Stop) → 0 < b → expr b 0 ts ≡ Err f → Completes NoName (Exprs 0) b ts f
 value_fails b ts f pos h = expr_completes b 0 ts f pos (omega arith) h
 
 module _ (b : ℕ) where
@@ -66,7 +65,7 @@ module _ (b : ℕ) where
   abbrev arg_of : Token → Read Expr → Read Arg
   arg_of x v = (record { formal = word x; value = v.0 }, v.1, v.2)
 
-  argument_inside : (x : Token) (xs : List Token) (f : Fault) → terminal x ≡ t.Name → 0 < b → (expect t.Assign xs >>= λ rest. expr b 0 rest >>= λ v. Ok (arg_of x v)) ≡ Err f → Completes Anything Args b (x ∷ xs) f
+  argument_inside : (x : Token) (xs : List Token) (f : Stop) → terminal x ≡ t.Name → 0 < b → (expect t.Assign xs >>= λ rest. expr b 0 rest >>= λ v. Ok (arg_of x v)) ≡ Err f → Completes Anything Args b (x ∷ xs) f
   argument_inside x xs f is pos h =
       behind_token Anything Args b x xs f (expect_then Anything (λ u d. Args (x ∷ u) d) b t.Assign (λ e. cc) (λ rest. expr b 0 rest >>= λ v. Ok (arg_of x v)) xs f (a_assign.token ∷ a_name.token ∷ []) 1 pos (_, g.arg is a_assign.is (g.name a_name.is))
       (λ y rest sign bad. one_by_one NoName (λ u d. Args (x ∷ y ∷ u) d) b (expr b 0 rest) (λ v. Ok (arg_of x v)) rest f
@@ -74,22 +73,22 @@ module _ (b : ℕ) where
       (λ v good bad'. absurd (never_both (arg_of x v) f bad')) bad) h)
 
   -- at the first token of an argument, or behind it
-  argument_err : (ts : List Token) (f : Fault) (P : Type 0) → (Syntax (length ts) ≡ f → P) → ((x : Token) (xs : List Token) → ts ≡ x ∷ xs → terminal x ≡ t.Name → b ≡ 0 → TooDeep (length ts) ≡ f → P)
+  argument_err : (ts : List Token) (f : Stop) (P : Type 0) → ((syntax, ts) ≡ f → P) → ((x : Token) (xs : List Token) → ts ≡ x ∷ xs → terminal x ≡ t.Name → b ≡ 0 → (too_deep, ts) ≡ f → P)
       → ((x : Token) (xs : List Token) → ts ≡ x ∷ xs → 0 < b → Completes Anything Args b (x ∷ xs) f → P) → argument b ts ≡ Err f → P
   unfolding argument
-  argument_err [] f P at deep later h = at (fault_is {A = Read Arg} (Syntax 0) f h)
+  argument_err [] f P at deep later h = at (fault_is {A = Read Arg} (syntax, []) f h)
   argument_err (x ∷ xs) f P at deep later h =
-      tested (same (terminal x) t.Name) (room b (x ∷ xs) >> (expect t.Assign xs >>= λ rest. expr b 0 rest >>= λ v. Ok (arg_of x v))) (Syntax (suc (length xs))) f P
+      tested (same (terminal x) t.Name) (room b (x ∷ xs) >> (expect t.Assign xs >>= λ rest. expr b 0 rest >>= λ v. Ok (arg_of x v))) (syntax, x ∷ xs) f P
       (λ is h'. (let name = same_is (terminal x) t.Name is in
       elim (bind_err (room b (x ∷ xs)) (λ _. expect t.Assign xs >>= λ rest. expr b 0 rest >>= λ v. done (arg_of x v)) f h') [
         | inl bad ↦ (let r = room_err b (x ∷ xs) f bad in deep x xs refl name r.0 r.1)
         | inr y ↦ (let pos = room_found b (x ∷ xs) y.0 y.1 in later x xs refl pos (argument_inside x xs f name pos y.2))
       ])) at h
 
-  argument_completes : 0 < b → (ts : List Token) (f : Fault) → argument b ts ≡ Err f → Completes Anything Args b ts f
+  argument_completes : 0 < b → (ts : List Token) (f : Stop) → argument b ts ≡ Err f → Completes Anything Args b ts f
   argument_completes pos ts f h =
       argument_err ts f (Completes Anything Args b ts f)
-      (λ is. completes_along Anything Args b ts ts (Syntax (length ts)) f refl is (stop_here Anything Args b ts (a_name.token ∷ a_assign.token ∷ a_name.token ∷ []) 1 pos an_argument))
+      (λ is. completes_along Anything Args b ts ts (syntax, ts) f refl is (stop_here Anything Args b ts (a_name.token ∷ a_assign.token ∷ a_name.token ∷ []) 1 pos an_argument))
       (λ x xs parts is none full. absurd (omega (arith, pos, none)))
       (λ x xs parts some c. completes_along Anything Args b (x ∷ xs) ts f f (sym parts) refl c) h
 
@@ -105,7 +104,7 @@ module _ (b : ℕ) where
     abbrev made_call : Read (List Arg) → List Token → Read Stmt
     made_call xs rest = (s.Call (word w) xs.0, xs.1 + 1, rest)
 
-    list_fails : (ts : List Token) (f : Fault) → terminal x ≡ t.Open → list_of (argument b) ts ≡ Err f → Completes NoName L (suc b) ts f
+    list_fails : (ts : List Token) (f : Stop) → terminal x ≡ t.Open → list_of (argument b) ts ≡ Err f → Completes NoName L (suc b) ts f
     unfolding parted
     list_fails ts f opens h =
         elim (room_for b) [
@@ -113,8 +112,8 @@ module _ (b : ℕ) where
               (parted_completes (argument b) Args ArgLists b (λ v d m. (_, g.one_arg m.1)) also_argument argument_takes (λ us f bad. whatever NoName Args b us f (argument_completes pos us f bad)) (length ts + 1) [] 0 ts f (omega arith) h)
           | inr none ↦ elim (bind_err (argument b ts) (λ y. cond (sees t.Comma y.2) (parted (argument b) (length ts) ([] ++ y.0 ∷ []) (max 0 y.1) (drop 1 y.2)) (expect t.Close y.2 >>= λ rest. done ([] ++ y.0 ∷ [], max 0 y.1, rest))) f (subst (λ (i : ℕ). parted (argument b) i [] 0 ts ≡ Err f) (add-one (length ts)) h)) [
             | inl bad ↦ argument_err ts f (Completes NoName L (suc b) ts f)
-                (λ is. completes_along NoName L (suc b) ts ts (Syntax (length ts)) f refl is (stop_here NoName L (suc b) ts (a_close.token ∷ a_semicolon.token ∷ []) 1 (omega arith) (_, g.calls_bare name opens a_close.is a_semicolon.is)))
-                (λ y ys parts is full deep. completes_along NoName L (suc b) (y ∷ ys) ts (TooDeep (suc (length ys))) f (sym parts) (ap (λ (v : List Token). TooDeep (length v)) (sym parts) ∙ deep)
+                (λ is. completes_along NoName L (suc b) ts ts (syntax, ts) f refl is (stop_here NoName L (suc b) ts (a_close.token ∷ a_semicolon.token ∷ []) 1 (omega arith) (_, g.calls_bare name opens a_close.is a_semicolon.is)))
+                (λ y ys parts is full deep. completes_along NoName L (suc b) (y ∷ ys) ts (too_deep, y ∷ ys) f (sym parts) (ap (λ (v : List Token). (too_deep, v)) (sym parts) ∙ deep)
                 (deep_here NoName L (suc b) y ys (a_close.token ∷ a_semicolon.token ∷ []) 1 (never_told NoName [] y (λ e. (let no' : t.Open ≡ t.Name = sym e ∙ is in cc)) (λ e. (let no' : t.Assign ≡ t.Name = sym e ∙ is in cc))) (omega arith)
                 (_, g.calls_bare name opens a_close.is a_semicolon.is) (a_assign.token ∷ a_name.token ∷ a_close.token ∷ a_semicolon.token ∷ []) 2
                 (_, g.calls a_close.token a_semicolon.token name opens (g.one_arg (g.arg is a_assign.is (g.name a_name.is))) a_close.is a_semicolon.is)))
@@ -127,7 +126,7 @@ module _ (b : ℕ) where
         room_for zero = inr refl
         room_for (suc n) = inl (omega arith)
 
-    called_fails : (ts : List Token) (f : Fault) → terminal x ≡ t.Open → called b w ts ≡ Err f → Completes NoName L (suc b) ts f
+    called_fails : (ts : List Token) (f : Stop) → terminal x ≡ t.Open → called b w ts ≡ Err f → Completes NoName L (suc b) ts f
     unfolding called_with called_bare
     called_fails ts f opens h =
         by_test (sees t.Close ts) (called_bare b w ts) (called_with b w ts) (λ r. r ≡ Err f) (Completes NoName L (suc b) ts f)
@@ -143,21 +142,21 @@ module _ (b : ℕ) where
         (expect_then Anything (λ u d. Behind L m.tokens (m.close ∷ u) d) (suc b) t.Semicolon (λ e. cc) (λ rest. Ok (made_call xs rest)) xs.2 f (a_semicolon.token ∷ []) (suc xs.1) (omega (arith, m.within))
         (_, g.calls m.close a_semicolon.token name opens m.is m.shut a_semicolon.is) (λ y rest end' bad''. absurd (never_both (made_call xs rest) f bad'')) bad'))))) bad) h
 
-    assigned_fails : (ts : List Token) (f : Fault) → terminal x ≡ t.Assign → assigned b w (x ∷ ts) ≡ Err f → Completes Anything Stmts (suc b) (w ∷ x ∷ ts) f
+    assigned_fails : (ts : List Token) (f : Stop) → terminal x ≡ t.Assign → assigned b w (x ∷ ts) ≡ Err f → Completes Anything Stmts (suc b) (w ∷ x ∷ ts) f
     unfolding assigned
     assigned_fails ts f sign h =
-        one_by_one Anything Stmts (suc b) (room_told b (x ∷ ts)) (λ _. expr b 0 ts >>= λ v. expect t.Semicolon v.2 >>= λ rest. Ok (s.Assign (word w) v.0, v.1 + 1, rest)) (w ∷ x ∷ ts) f
-        (λ bad. completes_along Anything Stmts (suc b) (w ∷ x ∷ ts) (w ∷ x ∷ ts) (DeepName (suc (length ts))) f refl (told_err b (x ∷ ts) f bad).1
+        one_by_one Anything Stmts (suc b) (room_told b w (x ∷ ts)) (λ _. expr b 0 ts >>= λ v. expect t.Semicolon v.2 >>= λ rest. Ok (s.Assign (word w) v.0, v.1 + 1, rest)) (w ∷ x ∷ ts) f
+        (λ bad. completes_along Anything Stmts (suc b) (w ∷ x ∷ ts) (w ∷ x ∷ ts) (told_too_deep w, x ∷ ts) f refl (told_err b w (x ∷ ts) f bad).1
         (told_here Anything Stmts (suc b) w x ts (a_open.token ∷ a_close.token ∷ a_semicolon.token ∷ []) 1 name (inr sign) (omega arith) (_, g.calls_bare name a_open.is a_close.is a_semicolon.is)
         (a_name.token ∷ a_semicolon.token ∷ []) 2 (_, g.assigns a_semicolon.token name sign (g.name a_name.is) a_semicolon.is)))
         (λ y good bad. behind_token Anything Stmts (suc b) w (x ∷ ts) f (behind_other Anything (λ u d. Stmts (w ∷ u) d) (suc b) x (λ n. (let no' : t.Assign ≡ t.Name = sym sign ∙ n in cc)) ts f
         (read_then NoName L (suc b) (expr b 0 ts) (λ v. expect t.Semicolon v.2 >>= λ rest. Ok (s.Assign (word w) v.0, v.1 + 1, rest)) ts f
-        (λ bad'. inside NoName L (suc b) (Exprs 0) b suc (λ d le. omega arith) (a_semicolon.token ∷ []) (λ v d l. (_, g.assigns a_semicolon.token name sign l.1 a_semicolon.is)) ts f (value_fails b ts f (told_found b (x ∷ ts) y good) bad'))
+        (λ bad'. inside NoName L (suc b) (Exprs 0) b suc (λ d le. omega arith) (a_semicolon.token ∷ []) (λ v d l. (_, g.assigns a_semicolon.token name sign l.1 a_semicolon.is)) ts f (value_fails b ts f (told_found b w (x ∷ ts) y good) bad'))
         (Exprs 0) b (value_takes b ts)
         (λ v u d l le bad'. expect_then Anything (Behind L u) (suc b) t.Semicolon (λ e. cc) (λ rest. Ok (s.Assign (word w) v.0, v.1 + 1, rest)) v.2 f (a_semicolon.token ∷ []) (suc d) (omega arith) (_, g.assigns a_semicolon.token name sign l.1 a_semicolon.is)
         (λ z rest end' bad''. absurd (never_both (s.Assign (word w) v.0, v.1 + 1, rest) f bad'')) bad') bad))) h
 
-  named_fails : (q : Terminal) (w : Token) (ts : List Token) (f : Fault) → terminal w ≡ t.Name → next ts ≡ q → named_stmt_by b q w ts ≡ Err f → Completes Anything Stmts (suc b) (w ∷ ts) f
+  named_fails : (q : Terminal) (w : Token) (ts : List Token) (f : Stop) → terminal w ≡ t.Name → next ts ≡ q → named_stmt_by b q w ts ≡ Err f → Completes Anything Stmts (suc b) (w ∷ ts) f
   named_fails t.Assign w ts f name is h =
       let o = next_found t.Assign ts (λ e. cc) is in
       completes_along Anything Stmts (suc b) (w ∷ o.token ∷ drop 1 ts) (w ∷ ts) f f (ap (λ (v : List Token). w ∷ v) (sym o.parts)) refl
@@ -168,7 +167,7 @@ module _ (b : ℕ) where
       (behind_token Anything Stmts (suc b) w (o.token ∷ drop 1 ts) f (behind_other Anything (λ u d. Stmts (w ∷ u) d) (suc b) o.token (λ n. (let no' : t.Open ≡ t.Name = sym o.is ∙ n in cc)) (drop 1 ts) f
       (called_fails w o.token name (drop 1 ts) f o.is h)))
   named_fails _ w ts f name is h =
-      behind_token Anything Stmts (suc b) w ts f (completes_along Anything (λ u d. Stmts (w ∷ u) d) (suc b) ts ts (Syntax (length ts)) f refl (fault_is {A = Read Stmt} (Syntax (length ts)) f h)
+      behind_token Anything Stmts (suc b) w ts f (completes_along Anything (λ u d. Stmts (w ∷ u) d) (suc b) ts ts (syntax, ts) f refl (fault_is {A = Read Stmt} (syntax, ts) f h)
       (stop_here Anything (λ u d. Stmts (w ∷ u) d) (suc b) ts (a_open.token ∷ a_close.token ∷ a_semicolon.token ∷ []) 1 (omega arith) (_, g.calls_bare name a_open.is a_close.is a_semicolon.is)))
 
   -- ---- IF, WHILE and CASE
@@ -182,11 +181,11 @@ module _ (b : ℕ) where
     abbrev H : Language
     H = λ u d. Stmts (x ∷ u) d
 
-    head_fails : (ts : List Token) (f : Fault) → head b q (x ∷ ts) ≡ Err f → Completes Anything Stmts (suc b) (x ∷ ts) f
+    head_fails : (ts : List Token) (f : Stop) → head b q (x ∷ ts) ≡ Err f → Completes Anything Stmts (suc b) (x ∷ ts) f
     unfolding head
     head_fails ts f h =
         one_by_one Anything Stmts (suc b) (room b (x ∷ ts)) (λ _. expr b 0 ts >>= λ v. expect q v.2 >>= λ rest. Ok (v.0, v.1, rest)) (x ∷ ts) f
-        (λ bad. completes_along Anything Stmts (suc b) (x ∷ ts) (x ∷ ts) (TooDeep (suc (length ts))) f refl (room_err b (x ∷ ts) f bad).1
+        (λ bad. completes_along Anything Stmts (suc b) (x ∷ ts) (x ∷ ts) (too_deep, x ∷ ts) f refl (room_err b (x ∷ ts) f bad).1
         (deep_here Anything Stmts (suc b) x ts _ 1 (never_told Anything [] x (begins_other t.Open refl x begin') (begins_other t.Assign refl x begin')) (omega arith) a_call (a_name.token ∷ a_q.token ∷ ending) 2
         (whole a_q.token a_z.token a_semicolon.token (a_name.token ∷ []) [] 1 0 (a_value 0) a_q.is nothing a_z.is a_semicolon.is)))
         (λ y good bad. behind_other Anything Stmts (suc b) x x_other ts f
@@ -197,21 +196,21 @@ module _ (b : ℕ) where
         (λ v w d l le bad'. expect_then Anything (Behind H w) (suc b) q q_other (λ rest. Ok (v.0, v.1, rest)) v.2 f (a_q.token ∷ ending) (suc (max d 0)) (omega arith) (whole a_q.token a_z.token a_semicolon.token w [] d 0 l a_q.is nothing a_z.is a_semicolon.is)
         (λ m rest mid bad''. absurd (never_both (v.0, v.1, rest) f bad'')) bad') bad)) h
 
-    closed_fails : {B : Type 0} (C : Context) (M : Language) (k : List Token → Out B) (d : ℕ) (us : List Token) (f : Fault) → d ≤ suc b → ((c e : Token) → terminal c ≡ z → terminal e ≡ t.Semicolon → M (c ∷ e ∷ []) d) → ((rest : List Token) → k rest ≡ Err f → ⊥)
+    closed_fails : {B : Type 0} (C : Context) (M : Language) (k : List Token → Out B) (d : ℕ) (us : List Token) (f : Stop) → d ≤ suc b → ((c e : Token) → terminal c ≡ z → terminal e ≡ t.Semicolon → M (c ∷ e ∷ []) d) → ((rest : List Token) → k rest ≡ Err f → ⊥)
         → (closed z us >>= k) ≡ Err f → Completes C M (suc b) us f
     unfolding closed
     closed_fails C M k d us f le end' never h =
         one_by_one C M (suc b) (expect z us >>= λ rest. expect t.Semicolon rest) k us f
         (λ bad. expect_then C M (suc b) z z_other (λ rest. expect t.Semicolon rest) us f ending d le (end' a_z.token a_semicolon.token a_z.is a_semicolon.is)
-        (λ c rest shut bad'. completes_along NoName (λ u d. M (c ∷ u) d) (suc b) rest rest (Syntax (length rest)) f refl (expect_err t.Semicolon rest f bad')
+        (λ c rest shut bad'. completes_along NoName (λ u d. M (c ∷ u) d) (suc b) rest rest (syntax, rest) f refl (expect_err t.Semicolon rest f bad')
         (stop_here NoName (λ u d. M (c ∷ u) d) (suc b) rest (a_semicolon.token ∷ []) d le (end' c a_semicolon.token shut a_semicolon.is))) bad)
         (λ rest good bad. absurd (never rest bad)) h
 
-    module _ {I : Type 0} (inner : Reader I) (takes : (ts : List Token) (r : Read I) → inner ts ≡ Ok r → Takes Inner b ts r.2) (fails : (ts : List Token) (f : Fault) → inner ts ≡ Err f → Completes Anything Inner b ts f) (make : Expr → I → Stmt) where
+    module _ {I : Type 0} (inner : Reader I) (takes : (ts : List Token) (r : Read I) → inner ts ≡ Ok r → Takes Inner b ts r.2) (fails : (ts : List Token) (f : Stop) → inner ts ≡ Err f → Completes Anything Inner b ts f) (make : Expr → I → Stmt) where
       abbrev built : Read Expr → Read I → List Token → Read Stmt
       built v ss rest = (make v.0 ss.0, max v.1 ss.1 + 1, rest)
 
-      blocked_fails : (ts : List Token) (f : Fault) → (head b q (x ∷ ts) >>= λ v. inner v.2 >>= λ ss. closed z ss.2 >>= λ rest. Ok (built v ss rest)) ≡ Err f → Completes Anything Stmts (suc b) (x ∷ ts) f
+      blocked_fails : (ts : List Token) (f : Stop) → (head b q (x ∷ ts) >>= λ v. inner v.2 >>= λ ss. closed z ss.2 >>= λ rest. Ok (built v ss rest)) ≡ Err f → Completes Anything Stmts (suc b) (x ∷ ts) f
       blocked_fails ts f h =
           one_by_one Anything Stmts (suc b) (head b q (x ∷ ts)) (λ v. inner v.2 >>= λ ss. closed z ss.2 >>= λ rest. Ok (built v ss rest)) (x ∷ ts) f (head_fails ts f)
           (λ v good bad. (let m = head_sound b q x ts v good in
@@ -226,7 +225,7 @@ module _ (b : ℕ) where
 
   -- ---- arms and statements
 
-  module _ (inner : Reader (List Stmt)) (sound : (ts : List Token) (r : Read (List Stmt)) → inner ts ≡ Ok r → Took AreStmts b ts r) (fails : (ts : List Token) (f : Fault) → inner ts ≡ Err f → Completes Anything StmtLists b ts f)
+  module _ (inner : Reader (List Stmt)) (sound : (ts : List Token) (r : Read (List Stmt)) → inner ts ≡ Ok r → Took AreStmts b ts r) (fails : (ts : List Token) (f : Stop) → inner ts ≡ Err f → Completes Anything StmtLists b ts f)
       (eats : Eats (arm inner)) where
     abbrev arm_of : Token → Read (List Stmt) → Read Arm
     arm_of l ss = (record { label = label l; span = l.span; body = ss.0 }, ss.1, ss.2)
@@ -234,14 +233,14 @@ module _ (b : ℕ) where
     arm_whole : (l c : Token) (w : List Token) (ss : List Stmt) (d : ℕ) → terminal l ≡ t.Digits → terminal c ≡ t.Colon → AreStmts w ss d → Arms (l ∷ c ∷ w) d
     arm_whole l c w ss d digits sign i = (_, record { label = l; colon = c; behind = w; stmts = ss; digits = digits; sign = sign; parts = refl; value = refl; whole = i })
 
-    arm_at_once : (ts : List Token) (f : Fault) → Syntax (length ts) ≡ f → Completes Anything Arms b ts f
-    arm_at_once ts f is = completes_along Anything Arms b ts ts (Syntax (length ts)) f refl is (stop_here Anything Arms b ts (a_digits.token ∷ a_colon.token ∷ []) 0 (omega arith) (arm_whole a_digits.token a_colon.token [] [] 0 a_digits.is a_colon.is g.no_stmt))
+    arm_at_once : (ts : List Token) (f : Stop) → (syntax, ts) ≡ f → Completes Anything Arms b ts f
+    arm_at_once ts f is = completes_along Anything Arms b ts ts (syntax, ts) f refl is (stop_here Anything Arms b ts (a_digits.token ∷ a_colon.token ∷ []) 0 (omega arith) (arm_whole a_digits.token a_colon.token [] [] 0 a_digits.is a_colon.is g.no_stmt))
 
-    arm_fails : (ts : List Token) (f : Fault) → arm inner ts ≡ Err f → Completes Anything Arms b ts f
+    arm_fails : (ts : List Token) (f : Stop) → arm inner ts ≡ Err f → Completes Anything Arms b ts f
     unfolding arm
-    arm_fails [] f h = arm_at_once [] f (fault_is {A = Read Arm} (Syntax 0) f h)
+    arm_fails [] f h = arm_at_once [] f (fault_is {A = Read Arm} (syntax, []) f h)
     arm_fails (l ∷ ts) f h =
-        tested (same (terminal l) t.Digits) (expect t.Colon ts >>= λ rest. inner rest >>= λ ss. Ok (arm_of l ss)) (Syntax (suc (length ts))) f (Completes Anything Arms b (l ∷ ts) f)
+        tested (same (terminal l) t.Digits) (expect t.Colon ts >>= λ rest. inner rest >>= λ ss. Ok (arm_of l ss)) (syntax, l ∷ ts) f (Completes Anything Arms b (l ∷ ts) f)
         (λ is bad. (let digits = same_is (terminal l) t.Digits is in
         behind_token Anything Arms b l ts f (expect_then Anything (λ u d. Arms (l ∷ u) d) b t.Colon (λ e. cc) (λ rest. inner rest >>= λ ss. Ok (arm_of l ss)) ts f (a_colon.token ∷ []) 0 (omega arith) (arm_whole l a_colon.token [] [] 0 digits a_colon.is g.no_stmt)
         (λ m rest sign bad'. one_by_one NoName (λ u d. Arms (l ∷ m ∷ u) d) b (inner rest) (λ ss. Ok (arm_of l ss)) rest f
@@ -249,7 +248,7 @@ module _ (b : ℕ) where
         (λ ss good bad''. absurd (never_both (arm_of l ss) f bad'')) bad') bad)))
         (arm_at_once (l ∷ ts) f) h
 
-    kind_fails : (q : Terminal) (x : Token) (ts : List Token) (f : Fault) → terminal x ≡ q → statement_by b inner q x ts ≡ Err f → Completes Anything Stmts (suc b) (x ∷ ts) f
+    kind_fails : (q : Terminal) (x : Token) (ts : List Token) (f : Stop) → terminal x ≡ q → statement_by b inner q x ts ≡ Err f → Completes Anything Stmts (suc b) (x ∷ ts) f
     unfolding conditional repeated selected
     kind_fails t.Name x ts f is h = named_fails (next ts) x ts f is refl h
     kind_fails t.If x ts f is h =
@@ -264,32 +263,32 @@ module _ (b : ℕ) where
         (λ us f bad. several_completes is_digits (arm inner) Arms ArmLists b (_, g.no_arm) also_arms (λ vs y _ fine. takes OneArm b vs y (arm_sound b inner sound vs y fine)) eats (λ vs f _ bad'. arm_fails vs f bad') (length us + 1) [] 0 us f (omega arith) bad)
         (λ v arms. s.Case v arms) ts f h
     kind_fails _ x ts f is h =
-        completes_along Anything Stmts (suc b) (x ∷ ts) (x ∷ ts) (Syntax (suc (length ts))) f refl (fault_is {A = Read Stmt} (Syntax (suc (length ts))) f h) (stop_here Anything Stmts (suc b) (x ∷ ts) _ 1 (omega arith) a_call)
+        completes_along Anything Stmts (suc b) (x ∷ ts) (x ∷ ts) (syntax, x ∷ ts) f refl (fault_is {A = Read Stmt} (syntax, x ∷ ts) f h) (stop_here Anything Stmts (suc b) (x ∷ ts) _ 1 (omega arith) a_call)
 
-    statement_of_fails : (ts : List Token) (f : Fault) → statement_of b inner ts ≡ Err f → Completes Anything Stmts (suc b) ts f
+    statement_of_fails : (ts : List Token) (f : Stop) → statement_of b inner ts ≡ Err f → Completes Anything Stmts (suc b) ts f
     unfolding statement_of
-    statement_of_fails [] f h = completes_along Anything Stmts (suc b) [] [] (Syntax 0) f refl (fault_is {A = Read Stmt} (Syntax 0) f h) (stop_here Anything Stmts (suc b) [] _ 1 (omega arith) a_call)
+    statement_of_fails [] f h = completes_along Anything Stmts (suc b) [] [] (syntax, []) f refl (fault_is {A = Read Stmt} (syntax, []) f h) (stop_here Anything Stmts (suc b) [] _ 1 (omega arith) a_call)
     statement_of_fails (x ∷ ts) f h = kind_fails (terminal x) x ts f refl h
 
 -- ---- all together
 
 -- no room for a statement
-full_fails : (n : ℕ) (found : List Stmt) (depth : ℕ) (ts : List Token) (f : Fault) → length ts < n → several begins_stmt (statement zero) n found depth ts ≡ Err f → Completes Anything StmtLists zero ts f
+full_fails : (n : ℕ) (found : List Stmt) (depth : ℕ) (ts : List Token) (f : Stop) → length ts < n → several begins_stmt (statement zero) n found depth ts ≡ Err f → Completes Anything StmtLists zero ts f
 unfolding several statement
 full_fails zero found depth ts f lt h = absurd (omega arith)
 full_fails (suc n) found depth [] f lt h = absurd cc
 full_fails (suc n) found depth (x ∷ ts) f lt h =
-    by_test (begins_stmt (terminal x)) (refuse (TooDeep (suc (length ts)))) (done (found, depth, x ∷ ts)) (λ r. r ≡ Err f) (Completes Anything StmtLists zero (x ∷ ts) f)
+    by_test (begins_stmt (terminal x)) (refuse (too_deep, x ∷ ts)) (done (found, depth, x ∷ ts)) (λ r. r ≡ Err f) (Completes Anything StmtLists zero (x ∷ ts) f)
     (λ is bad. (let m = begun_by (terminal x) x refl is in
-    completes_along Anything StmtLists zero (x ∷ ts) (x ∷ ts) (TooDeep (suc (length ts))) f refl (fault_is {A = Read (List Stmt)} (TooDeep (suc (length ts))) f bad)
+    completes_along Anything StmtLists zero (x ∷ ts) (x ∷ ts) (too_deep, x ∷ ts) f refl (fault_is {A = Read (List Stmt)} (too_deep, x ∷ ts) f bad)
     (deep_here Anything StmtLists zero x ts [] 0 (never_told Anything [] x (begins_other t.Open refl x is) (begins_other t.Assign refl x is)) (omega arith) (_, g.no_stmt) (m.0 ++ []) (max m.1 0) (also_stmt (x ∷ m.0) [] m.1 0 m.2 (_, g.no_stmt)))))
     (λ is bad. absurd (never_both (found, depth, x ∷ ts) f bad)) h
 
-stmt_fails : (b : ℕ) → ((ts : List Token) (f : Fault) → all_of begins_stmt (statement b) ts ≡ Err f → Completes Anything StmtLists b ts f) → (ts : List Token) (f : Fault) → statement (suc b) ts ≡ Err f → Completes Anything Stmts (suc b) ts f
+stmt_fails : (b : ℕ) → ((ts : List Token) (f : Stop) → all_of begins_stmt (statement b) ts ≡ Err f → Completes Anything StmtLists b ts f) → (ts : List Token) (f : Stop) → statement (suc b) ts ≡ Err f → Completes Anything Stmts (suc b) ts f
 unfolding statement
 stmt_fails b fails ts f h = statement_of_fails b (λ us. all_of begins_stmt (statement b) us) (statements_sound b) fails (arms_eat b) ts f h
 
-pub stmts_completes : (b : ℕ) (ts : List Token) (f : Fault) → all_of begins_stmt (statement b) ts ≡ Err f → Completes Anything StmtLists b ts f
+pub stmts_completes : (b : ℕ) (ts : List Token) (f : Stop) → all_of begins_stmt (statement b) ts ≡ Err f → Completes Anything StmtLists b ts f
 stmts_completes zero ts f h = full_fails (length ts + 1) [] 0 ts f (omega arith) h
 stmts_completes (suc b) ts f h =
     several_completes begins_stmt (statement (suc b)) Stmts StmtLists (suc b) (_, g.no_stmt) also_stmt (λ vs y _ fine. takes IsStmt (suc b) vs y (statement_sound (suc b) vs y fine)) (good (suc b)).eats (λ vs g' _ bad. stmt_fails b (stmts_completes b) vs g' bad) (length ts + 1) [] 0 ts f (omega arith) h

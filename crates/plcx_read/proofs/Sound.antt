@@ -4,13 +4,12 @@ use denote.Enum.Bare.{same_true}
 use Rattle.std.proofs.lemmas.List.{append-nil}
 use Rattle.plcx_lex.specs.Token.{Token}
 use Rattle.plcx_st.specs.contracts.terminal.Terminal.{the_type}
-use Rattle.plcx_st.specs.declared.terminal.Terminal.{Terminal}
-use Rattle.plcx_st.specs.declared.terminal.Terminal.TheVariants as t
-use Rattle.plcx_st.specs.Terminal.{terminal}
-use Rattle.plcx_st.specs.Place.{Fault, Syntax}
+use Rattle.plcx_lex.specs.declared.terminal.Terminal.{Terminal}
+use Rattle.plcx_lex.specs.declared.terminal.Terminal.TheVariants as t
+use Rattle.plcx_lex.specs.Terminal.{terminal}
 use Rattle.plcx_st.specs.Grammar.{word}
 use Rattle.plcx_st.specs.declared.tree.Word.{Word}
-use Rattle.plcx_read.specs.Reading.{Read, ◌>>=◌, same, next, sees, expect, name_at, room, room_told, several, all_of, parted, list_of}
+use Rattle.plcx_read.specs.Reading.{Stop, syntax, Read, ◌>>=◌, same, next, sees, expect, name_at, room, room_told, several, all_of, parted, list_of}
 use Rattle.plcx_read.proofs.Steady.{Reader, done, done_is, fault_is, bind_ok}
 
 -- ---- tests
@@ -20,11 +19,11 @@ pub by_test : {A : Type 0} (c : Bool) (x y : A) (f : A → Type 0) (P : Type 0) 
 by_test true x y f P right wrong h = right refl h
 by_test false x y f P right wrong h = wrong refl h
 
-pub tested : {A : Type 0} (c : Bool) (r : Result A Fault) (f g : Fault) (P : Type 0) → (c ≡ true → r ≡ Err g → P) → (f ≡ g → P) → cond c r (Err f) ≡ Err g → P
+pub tested : {A : Type 0} (c : Bool) (r : Result A Stop) (f g : Stop) (P : Type 0) → (c ≡ true → r ≡ Err g → P) → (f ≡ g → P) → cond c r (Err f) ≡ Err g → P
 tested true r f g P right wrong h = right refl h
 tested {A} false r f g P right wrong h = wrong (fault_is {A = A} f g h)
 
-pub passed : {A : Type 0} (c : Bool) (r : Result A Fault) (f : Fault) (x : A) → cond c r (Err f) ≡ Ok x → (c ≡ true) × (r ≡ Ok x)
+pub passed : {A : Type 0} (c : Bool) (r : Result A Stop) (f : Stop) (x : A) → cond c r (Err f) ≡ Ok x → (c ≡ true) × (r ≡ Ok x)
 passed true r f x h = (refl, h)
 passed false r f x h = absurd cc
 
@@ -52,7 +51,7 @@ pub expect_found : (q : Terminal) (ts rest : List Token) → expect q ts ≡ Ok 
 unfolding expect
 expect_found q [] rest h = absurd cc
 expect_found q (x ∷ ts) rest h =
-    let p = passed (same (terminal x) q) (done ts) (Syntax (length (x ∷ ts))) rest h in
+    let p = passed (same (terminal x) q) (done ts) (syntax, x ∷ ts) rest h in
     record { token = x; is = same_is (terminal x) q p.0; parts = ap (λ (v : List Token). x ∷ v) (done_is ts rest p.1) }
 
 pub record FoundName (ts : List Token) (r : Read Word) : Type 0 where
@@ -65,7 +64,7 @@ pub name_found : (ts : List Token) (r : Read Word) → name_at ts ≡ Ok r → F
 unfolding name_at
 name_found [] r h = absurd cc
 name_found (x ∷ ts) r h =
-    let p = passed (same (terminal x) t.Name) (done (word x, 0, ts)) (Syntax (length (x ∷ ts))) r h in
+    let p = passed (same (terminal x) t.Name) (done (word x, 0, ts)) (syntax, x ∷ ts) r h in
     let e = done_is (word x, 0, ts) r p.1 in
     record { token = x; is = same_is (terminal x) t.Name p.0; value = ap (λ (q : Read Word). q.0) (sym e); parts = ap (λ (q : Read Word). x ∷ q.2) e }
 
@@ -74,10 +73,10 @@ unfolding room
 room_found zero ts y h = absurd cc
 room_found (suc a) ts y h = omega arith
 
-pub told_found : (a : ℕ) (ts : List Token) (y : Unit {0}) → room_told a ts ≡ Ok y → 0 < a
+pub told_found : (a : ℕ) (w : Token) (ts : List Token) (y : Unit {0}) → room_told a w ts ≡ Ok y → 0 < a
 unfolding room_told
-told_found zero ts y h = absurd cc
-told_found (suc a) ts y h = omega arith
+told_found zero w ts y h = absurd cc
+told_found (suc a) w ts y h = omega arith
 
 -- ---- what was read
 

@@ -1,14 +1,13 @@
 -- What is read as an expression is one.
-use Rattle.std.proofs.Common.{◌≡◌, ℕ, ℤ, zero, suc, ◌+◌, ◌≤◌, ◌<◌, true, false, cond, ltb, max, add-one, List, [], ◌∷◌, ◌++◌, length, drop, Option, Some, None, Ok, Err, refl, sym, ap, subst, ◌∙◌, append_assoc, arith, inl, inr}
+use Rattle.std.proofs.Common.{◌≡◌, ℕ, ℤ, zero, suc, ◌+◌, ◌≤◌, ◌<◌, true, false, cond, ltb, max, add-one, List, [], ◌∷◌, ◌++◌, drop, Option, Some, None, Ok, Err, refl, sym, ap, subst, ◌∙◌, append_assoc, arith, inl, inr}
 use Rattle.std.proofs.lemmas.Bool.{le-ltb, ltb-false, cases_lt}
 use Rattle.plcx_types.specs.declared.ty.Ty.{Ty}
 use Rattle.plcx_lex.specs.Token.{Token}
 use Rattle.plcx_lex.specs.ReadNumber.{literal_of}
 use Rattle.plcx_lex.proofs.Numbers.{literal_is}
-use Rattle.plcx_st.specs.declared.terminal.Terminal.{Terminal}
-use Rattle.plcx_st.specs.declared.terminal.Terminal.TheVariants as t
-use Rattle.plcx_st.specs.Terminal.{terminal}
-use Rattle.plcx_st.specs.Place.{Syntax, TooDeep}
+use Rattle.plcx_lex.specs.declared.terminal.Terminal.{Terminal}
+use Rattle.plcx_lex.specs.declared.terminal.Terminal.TheVariants as t
+use Rattle.plcx_lex.specs.Terminal.{terminal}
 use Rattle.plcx_st.specs.Grammar.{word, number, operator, level, tightest, IsExpr, AreExprs}
 use Rattle.plcx_st.specs.Grammar as g
 use Rattle.plcx_st.specs.declared.tree.Number.{Number}
@@ -16,7 +15,7 @@ use Rattle.plcx_st.specs.declared.tree.Op.{Op}
 use Rattle.plcx_st.specs.declared.tree.Op.TheVariants as op
 use Rattle.plcx_st.specs.declared.tree.Expr.{Expr}
 use Rattle.plcx_st.specs.declared.tree.Expr.TheVariants as e
-use Rattle.plcx_read.specs.Reading.{Out, Read, ◌>>=◌, same, next, expect, room, room_told, name_at, with_literal, literal_at, list_of, next_operator, binding, with_operator, call, member, bracketed, negated, named_by, valued, operand_by, operand, climb, level_of, expr}
+use Rattle.plcx_read.specs.Reading.{syntax, too_deep, Out, Read, ◌>>=◌, same, next, expect, room, room_told, name_at, with_literal, literal_at, list_of, next_operator, binding, with_operator, call, member, bracketed, negated, named_by, valued, operand_by, operand, climb, level_of, expr}
 use Rattle.plcx_read.proofs.Steady.{Reader, done, done_is, bind_ok}
 use Rattle.plcx_read.proofs.Sound.{Took, took, by_test, passed, same_is, next_found, expect_found, name_found, list_sound}
 
@@ -117,7 +116,7 @@ with_found (Some v) x ts r is l h =
 pub literal_found : (ts : List Token) (r : Read Number) → literal_at ts ≡ Ok r → FoundLiteral ts r
 unfolding literal_at
 literal_found [] r h = absurd cc
-literal_found (x ∷ ts) r h = let p = passed (same (terminal x) t.Number) (with_literal (literal_of x.text) x ts) (Syntax (length (x ∷ ts))) r h in with_found (literal_of x.text) x ts r (same_is (terminal x) t.Number p.0) refl p.1
+literal_found (x ∷ ts) r h = let p = passed (same (terminal x) t.Number) (with_literal (literal_of x.text) x ts) (syntax, x ∷ ts) r h in with_found (literal_of x.text) x ts r (same_is (terminal x) t.Number p.0) refl p.1
 
 -- ---- expressions
 
@@ -143,7 +142,7 @@ module _ (a : ℕ) (inner : ℕ → Reader Expr) (sound : (least : ℕ) (ts : Li
   unfolding call
   call_sound w ts x is opens h =
       let o = next_found t.Open ts (λ e. cc) opens in
-      let r = bind_ok (room_told a ts) (λ _. list_of (inner 0) (drop 1 ts) >>= λ xs. done (e.Call (word w) xs.0, xs.1 + 1, xs.2)) x h in
+      let r = bind_ok (room_told a w ts) (λ _. list_of (inner 0) (drop 1 ts) >>= λ xs. done (e.Call (word w) xs.0, xs.1 + 1, xs.2)) x h in
       let b = bind_ok (list_of (inner 0) (drop 1 ts)) (λ xs. done (e.Call (word w) xs.0, xs.1 + 1, xs.2)) x r.2 in
       let m = list_sound (inner 0) (IsExpr 0) AreExprs a (λ u v d i. g.one_expr i) (λ c u v x xs d d' i is' j. g.more_exprs c i is' j) (λ us y good. as_took a 0 us y (sound 0 us y (omega arith) good)) (drop 1 ts) b.0 b.1 in
       let rest : ts ≡ (o.token ∷ (m.tokens ++ m.close ∷ [])) ++ b.0.2 = o.parts ∙ ap (λ (u : List Token). o.token ∷ u) (m.parts ∙ sym (append_assoc m.tokens (m.close ∷ []) b.0.2)) in
@@ -207,17 +206,17 @@ module _ (a : ℕ) (inner : ℕ → Reader Expr) (sound : (least : ℕ) (ts : Li
   climb_sound : (f least n : ℕ) (xs : List Token) (left : Expr) (depth : ℕ) (us : List Token) (x : Read Expr) → least ≤ n → IsExpr n xs left depth → depth ≤ suc a → next_operator (suc n) us ≡ None → climb a inner f least left depth us ≡ Ok x → TookExpr (suc a) least (xs ++ us) x
   unfolding climb
   climb_sound zero least n xs left depth us x le lefts within stop h =
-      elim (next_operator least us) as (λ m. next_operator least us ≡ m → with_operator {A = Out Expr} m (Ok (left, depth, us)) (λ o. Err (TooDeep (length us))) ≡ Ok x → TookExpr (suc a) least (xs ++ us) x) [
+      elim (next_operator least us) as (λ m. next_operator least us ≡ m → with_operator {A = Out Expr} m (Ok (left, depth, us)) (λ o. Err (too_deep, us)) ≡ Ok x → TookExpr (suc a) least (xs ++ us) x) [
         | None ↦ λ is h'. stopped (suc a) least n xs left depth us x le lefts within is h'
         | Some o ↦ λ is h'. absurd cc
       ] refl h
   climb_sound (suc f) least n xs left depth us x le lefts within stop h =
       elim (next_operator least us) as (λ m. next_operator least us ≡ m → with_operator {A = Out Expr} m (Ok (left, depth, us)) (λ o.
-      cond (ltb a depth) (Err (TooDeep (length us))) (inner (level o + 1) (drop 1 us) >>= λ y. climb a inner f least (e.Binary o left y.0) (max depth y.1 + 1) y.2)) ≡ Ok x → TookExpr (suc a) least (xs ++ us) x) [
+      cond (ltb a depth) (Err (too_deep, us)) (inner (level o + 1) (drop 1 us) >>= λ y. climb a inner f least (e.Binary o left y.0) (max depth y.1 + 1) y.2)) ≡ Ok x → TookExpr (suc a) least (xs ++ us) x) [
         | None ↦ λ is h'. stopped (suc a) least n xs left depth us x le lefts within is h'
         | Some o ↦ λ is h'.
             let p = operator_found least us o is in
-            by_test (ltb a depth) (Err (TooDeep (length us))) (inner (level o + 1) (drop 1 us) >>= λ y. climb a inner f least (e.Binary o left y.0) (max depth y.1 + 1) y.2) (λ r. r ≡ Ok x) (TookExpr (suc a) least (xs ++ us) x)
+            by_test (ltb a depth) (Err (too_deep, us)) (inner (level o + 1) (drop 1 us) >>= λ y. climb a inner f least (e.Binary o left y.0) (max depth y.1 + 1) y.2) (λ r. r ≡ Ok x) (TookExpr (suc a) least (xs ++ us) x)
             (λ full bad. absurd cc)
             (λ fits good.
             (let low : depth ≤ a = ltb-false a depth fits in

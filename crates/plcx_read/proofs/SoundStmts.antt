@@ -1,10 +1,9 @@
 -- What is read as a statement is one.
-use Rattle.std.proofs.Common.{◌≡◌, ℕ, zero, suc, ◌+◌, ◌≤◌, true, max, List, [], ◌∷◌, ◌++◌, length, drop, Ok, refl, sym, ap, subst, ◌∙◌, append_assoc, arith}
+use Rattle.std.proofs.Common.{◌≡◌, ℕ, zero, suc, ◌+◌, ◌≤◌, true, max, List, [], ◌∷◌, ◌++◌, drop, Ok, refl, sym, ap, subst, ◌∙◌, append_assoc, arith}
 use Rattle.plcx_lex.specs.Token.{Token}
-use Rattle.plcx_st.specs.declared.terminal.Terminal.{Terminal}
-use Rattle.plcx_st.specs.declared.terminal.Terminal.TheVariants as t
-use Rattle.plcx_st.specs.Terminal.{terminal}
-use Rattle.plcx_st.specs.Place.{Syntax}
+use Rattle.plcx_lex.specs.declared.terminal.Terminal.{Terminal}
+use Rattle.plcx_lex.specs.declared.terminal.Terminal.TheVariants as t
+use Rattle.plcx_lex.specs.Terminal.{terminal}
 use Rattle.plcx_st.specs.Grammar.{word, label, IsExpr, IsArg, AreArgs, IsStmt, AreStmts, AreArms}
 use Rattle.plcx_st.specs.Grammar as g
 use Rattle.plcx_st.specs.declared.tree.Expr.{Expr}
@@ -12,7 +11,7 @@ use Rattle.plcx_st.specs.declared.tree.Arg.{Arg}
 use Rattle.plcx_st.specs.declared.tree.Arm.{Arm}
 use Rattle.plcx_st.specs.declared.tree.Stmt.{Stmt}
 use Rattle.plcx_st.specs.declared.tree.Stmt.TheVariants as s
-use Rattle.plcx_read.specs.Reading.{Read, ◌>>=◌, ◌>>◌, same, next, sees, expect, room, room_told, all_of, list_of, expr, begins_stmt, is_digits, closed, assigned, argument, called_with, called_bare, named_stmt_by, head, conditional, repeated, arm, selected, statement_by, statement_of, statement}
+use Rattle.plcx_read.specs.Reading.{syntax, Read, ◌>>=◌, ◌>>◌, same, next, sees, expect, room, room_told, all_of, list_of, expr, begins_stmt, is_digits, closed, assigned, argument, called_with, called_bare, named_stmt_by, head, conditional, repeated, arm, selected, statement_by, statement_of, statement}
 use Rattle.plcx_read.proofs.Steady.{Reader, done, done_is, bind_ok}
 use Rattle.plcx_read.proofs.Sound.{Took, took, TookParted, by_test, passed, same_is, sees_found, next_found, expect_found, all_sound, list_sound}
 use Rattle.plcx_read.proofs.SoundExprs.{as_took, expr_sound}
@@ -70,7 +69,7 @@ module _ (b : ℕ) where
   unfolding argument
   argument_sound [] r h = absurd cc
   argument_sound (x ∷ xs) r h =
-      let p = passed (same (terminal x) t.Name) (room b (x ∷ xs) >> (expect t.Assign xs >>= λ rest. expr b 0 rest >>= λ v. Ok (arg_of x v))) (Syntax (length (x ∷ xs))) r h in
+      let p = passed (same (terminal x) t.Name) (room b (x ∷ xs) >> (expect t.Assign xs >>= λ rest. expr b 0 rest >>= λ v. Ok (arg_of x v))) (syntax, x ∷ xs) r h in
       let y = bind_ok (room b (x ∷ xs)) (λ _. expect t.Assign xs >>= λ rest. expr b 0 rest >>= λ v. done (arg_of x v)) r p.1 in
       let z = bind_ok (expect t.Assign xs) (λ rest. expr b 0 rest >>= λ v. done (arg_of x v)) r y.2 in
       let o = expect_found t.Assign xs z.0 z.1 in
@@ -88,7 +87,7 @@ module _ (b : ℕ) where
   assigned_sound : (w a : Token) (ts : List Token) (x : Read Stmt) → terminal w ≡ t.Name → terminal a ≡ t.Assign → assigned b w (a ∷ ts) ≡ Ok x → Statement (w ∷ a ∷ ts) x
   unfolding assigned
   assigned_sound w a ts x name sign h =
-      let r = bind_ok (room_told b (a ∷ ts)) (λ _. expr b 0 ts >>= λ v. expect t.Semicolon v.2 >>= λ rest. done (s.Assign (word w) v.0, v.1 + 1, rest)) x h in
+      let r = bind_ok (room_told b w (a ∷ ts)) (λ _. expr b 0 ts >>= λ v. expect t.Semicolon v.2 >>= λ rest. done (s.Assign (word w) v.0, v.1 + 1, rest)) x h in
       let v = bind_ok (expr b 0 ts) (λ v. expect t.Semicolon v.2 >>= λ rest. done (s.Assign (word w) v.0, v.1 + 1, rest)) x r.2 in
       let m = value_sound ts v.0 v.1 in
       let e = bind_ok (expect t.Semicolon v.0.2) (λ rest. done (s.Assign (word w) v.0.0, v.0.1 + 1, rest)) x v.2 in
@@ -165,7 +164,7 @@ module _ (b : ℕ) where
     unfolding arm
     arm_sound [] r h = absurd cc
     arm_sound (l ∷ ts) r h =
-        let p = passed (same (terminal l) t.Digits) (expect t.Colon ts >>= λ rest. inner rest >>= λ ss. Ok (arm_of l ss)) (Syntax (length (l ∷ ts))) r h in
+        let p = passed (same (terminal l) t.Digits) (expect t.Colon ts >>= λ rest. inner rest >>= λ ss. Ok (arm_of l ss)) (syntax, l ∷ ts) r h in
         let y = bind_ok (expect t.Colon ts) (λ rest. inner rest >>= λ ss. done (arm_of l ss)) r p.1 in
         let o = expect_found t.Colon ts y.0 y.1 in
         let k = bind_ok (inner y.0) (λ ss. done (arm_of l ss)) r y.2 in

@@ -4,10 +4,9 @@ use Rattle.std.proofs.lemmas.List.{append-nil}
 use Rattle.std.specs.Char.{to_ascii_uppercase}
 use Rattle.plcx_lex.specs.Token.{Token}
 use Rattle.plcx_lex.proofs.Numbers.{literal_is}
-use Rattle.plcx_st.specs.declared.terminal.Terminal.{Terminal}
-use Rattle.plcx_st.specs.declared.terminal.Terminal.TheVariants as t
-use Rattle.plcx_st.specs.Terminal.{terminal}
-use Rattle.plcx_st.specs.Place.{Syntax}
+use Rattle.plcx_lex.specs.declared.terminal.Terminal.{Terminal}
+use Rattle.plcx_lex.specs.declared.terminal.Terminal.TheVariants as t
+use Rattle.plcx_lex.specs.Terminal.{terminal}
 use Rattle.plcx_st.specs.Grammar.{word, number, marked_class, heading, ending, Each, IsAddress, IsInitial, IsDecl, IsBareDecl, IsBlock, IsPou, AreStmts, ArePous}
 use Rattle.plcx_st.specs.Grammar as g
 use Rattle.plcx_st.specs.declared.tree.Word.{Word}
@@ -22,7 +21,7 @@ use Rattle.plcx_st.specs.declared.tree.Decl.{Decl}
 use Rattle.plcx_st.specs.declared.tree.TextBlock.{TextBlock}
 use Rattle.plcx_st.specs.declared.tree.Stmt.{Stmt}
 use Rattle.plcx_st.specs.declared.tree.PouText.{PouText}
-use Rattle.plcx_read.specs.Reading.{Read, ◌>>=◌, same, next, sees, expect, name_at, literal_at, all_of, statement, begins_stmt, address_token, address_at, initial_at, decl, bare_decl, begins_decl, mark_by, block_of, marked_block, block_by, block, begins_block, pou_of, pou_by, begins_pou, pou, pous}
+use Rattle.plcx_read.specs.Reading.{syntax, Read, ◌>>=◌, same, next, sees, expect, name_at, literal_at, all_of, statement, begins_stmt, address_token, address_at, initial_at, decl, bare_decl, begins_decl, mark_by, block_of, marked_block, block_by, block, begins_block, pou_of, pou_by, begins_pou, pou, pous}
 use Rattle.plcx_read.proofs.Steady.{Reader, done, done_is, bind_ok}
 use Rattle.plcx_read.proofs.Sound.{Took, took, by_test, passed, same_is, sees_found, next_found, expect_found, name_found, all_sound}
 use Rattle.plcx_read.proofs.SoundExprs.{literal_found}
@@ -46,7 +45,7 @@ module _ (a : ℕ) where
   unfolding address_token
   address_token_sound w [] r is h = absurd cc
   address_token_sound w (x ∷ ts) r is h =
-      let p = passed (same (terminal x) t.Address) (done (Some (map to_ascii_uppercase x.text), 0, ts)) (Syntax (length (x ∷ ts))) r h in
+      let p = passed (same (terminal x) t.Address) (done (Some (map to_ascii_uppercase x.text), 0, ts)) (syntax, x ∷ ts) r h in
       flat IsAddress a (w ∷ x ∷ ts) (w ∷ x ∷ []) ts (Some (map to_ascii_uppercase x.text)) r (g.address is (same_is (terminal x) t.Address p.0)) refl p.1
 
   pub address_sound : (ts : List Token) (r : Read (Option (List ℕ))) → address_at ts ≡ Ok r → Took (Flat IsAddress) a ts r
@@ -215,9 +214,9 @@ nothing_left (x ∷ ts) h = absurd (omega (arith, eqb→eq (suc (length ts)) 0 (
 pub pous_sound : (a : ℕ) (ts : List Token) (ps : List PouText) → pous a ts ≡ Ok ps → (d : ℕ) × (d ≤ a) × ArePous ts ps d
 unfolding pous
 pous_sound a ts ps h =
-    let b = bind_ok (all_of begins_pou (pou a) ts) (λ y. cond (eqb (length y.2) 0) (done y.0) (Err (Syntax (length y.2)))) ps h in
+    let b = bind_ok (all_of begins_pou (pou a) ts) (λ y. cond (eqb (length y.2) 0) (done y.0) (Err (syntax, y.2))) ps h in
     let y : Read (List PouText) = b.0 in
-    let p = passed (eqb (length y.2) 0) (done y.0) (Syntax (length y.2)) ps b.2 in
+    let p = passed (eqb (length y.2) 0) (done y.0) (syntax, y.2) ps b.2 in
     let m = all_pous_sound a ts y b.1 in
     let all : ts ≡ m.tokens = m.parts ∙ ap (λ (w : List Token). m.tokens ++ w) (nothing_left y.2 p.0) ∙ append-nil m.tokens in
     (y.1, m.within, subst (λ (v : List PouText). ArePous ts v y.1) (done_is y.0 ps p.1) (subst (λ (w : List Token). ArePous w y.0 y.1) (sym all) m.is))

@@ -2,35 +2,25 @@
 use Rattle.std.proofs.Common.{◌≡◌, ℕ, zero, suc, ◌+◌, ◌≤◌, ◌<◌, Bool, true, false, cond, length-append, List, [], ◌∷◌, ◌++◌, length, drop, Option, Some, None, Result, Ok, Err, refl, sym, ap, subst, ◌∙◌, append_assoc, arith, inl, inr, ◌⊎◌}
 use Rattle.std.proofs.lemmas.List.{append_cancel_right}
 use Rattle.plcx_lex.specs.Token.{Token}
-use Rattle.plcx_st.specs.Place.{Fault, Syntax, TooDeep, DeepName, left_at}
-use Rattle.plcx_st.specs.declared.terminal.Terminal.{Terminal}
-use Rattle.plcx_st.specs.declared.terminal.Terminal.TheVariants as t
-use Rattle.plcx_st.specs.Terminal.{terminal}
-use Rattle.plcx_read.specs.Reading.{Out, Read, ◌>>=◌, ◌>>◌, same, next, sees, expect, room, room_told}
+use Rattle.plcx_lex.specs.declared.terminal.Terminal.{Terminal}
+use Rattle.plcx_lex.specs.declared.terminal.Terminal.TheVariants as t
+use Rattle.plcx_lex.specs.Terminal.{terminal}
+use Rattle.plcx_read.specs.Reading.{Cause, syntax, too_deep, told_too_deep, Stop, Out, Read, ◌>>=◌, ◌>>◌, same, next, sees, expect, room, room_told}
 
 abbrev pub Reader : Type 0 → Type 0
 Reader A = List Token → Out A
 
 -- ---- outcomes in front of a cut
 
--- what a fault is for
-pub data Cause : Type 0 where
-  syntax depth name : Cause
-
-abbrev pub fault : Cause → ℕ → Fault
-fault syntax n = Syntax n
-fault depth n = TooDeep n
-fault name n = DeepName n
-
--- with some tokens left in front of the cut: an answer, or a fault
+-- with some tokens left in front of the cut: an answer, or a stop
 pub data Outcome (A : Type 0) : Type 0 where
   answered : A → ℕ → List Token → Outcome A
-  refused : Cause → ℕ → Outcome A
+  refused : Cause → List Token → Outcome A
 
 -- the outcome, where these tokens are behind the cut
 abbrev pub seen : {A : Type 0} → Outcome A → List Token → Out A
 seen (answered v d r) x = Ok (v, d, r ++ x)
-seen (refused cause n) x = Err (fault cause (suc n + length x))
+seen (refused cause r) x = Err (cause, r ++ x)
 
 -- a fault of depth stays only where both allowances are the same
 abbrev pub Holds : (even : Type 0) → Cause → Type 0
@@ -39,58 +29,42 @@ Holds even _ = even
 
 abbrev pub Firm : {A : Type 0} → (even : Type 0) → Outcome A → Type 0
 Firm even (answered v d r) = 0 < length r
-Firm even (refused cause n) = Holds even cause
+Firm even (refused cause r) = (0 < length r) × Holds even cause
 
 -- What p answers in front of a cut, q answers whatever is behind it.
 pub record Steady {A : Type 0} (even : Type 0) (p q : Reader A) : Type 0 where
   pub suffix : (ts : List Token) (x : Read A) → p ts ≡ Ok x → (u : List Token) × (ts ≡ u ++ x.2)
-  pub left : (ts : List Token) (f : Fault) → p ts ≡ Err f → left_at f ≤ length ts
+  pub left : (ts : List Token) (f : Stop) → p ts ≡ Err f → length f.1 ≤ length ts
   pub stays : (o : Outcome A) → Firm even o → (s x y : List Token) → p (s ++ x) ≡ seen o x → q (s ++ y) ≡ seen o y
 
 -- ---- results
 
-abbrev pub done : {A : Type 0} → A → Result A Fault
+abbrev pub done : {A : Type 0} → A → Result A Stop
 done x = Ok x
 
-abbrev pub refuse : {A : Type 0} → Fault → Result A Fault
+abbrev pub refuse : {A : Type 0} → Stop → Result A Stop
 refuse f = Err f
 
 pub done_is : {A : Type 0} (x y : A) → done x ≡ done y → x ≡ y
 done_is x y h = cc
 
-pub fault_is : {A : Type 0} (f g : Fault) → refuse {A = A} f ≡ refuse g → f ≡ g
+pub fault_is : {A : Type 0} (f g : Stop) → refuse {A = A} f ≡ refuse g → f ≡ g
 fault_is f g h = cc
 
-pub never_both : {A : Type 0} (x : A) (f : Fault) → done x ≡ refuse f → ⊥
+pub never_both : {A : Type 0} (x : A) (f : Stop) → done x ≡ refuse f → ⊥
 never_both x f h = absurd cc
 
-pub bind_err : {A B : Type 0} (r : Result A Fault) (f : A → Result B Fault) (e : Fault) → (r >>= f) ≡ Err e → (r ≡ Err e) ⊎ ((x : A) × (r ≡ Ok x) × (f x ≡ Err e))
+pub bind_err : {A B : Type 0} (r : Result A Stop) (f : A → Result B Stop) (e : Stop) → (r >>= f) ≡ Err e → (r ≡ Err e) ⊎ ((x : A) × (r ≡ Ok x) × (f x ≡ Err e))
 bind_err (Ok x) f e h = inr (x, refl, h)
-bind_err (Err d) f e h = inl (ap (λ (g : Fault). refuse g) (fault_is d e h))
+bind_err (Err d) f e h = inl (ap (λ (g : Stop). refuse g) (fault_is d e h))
 
-pub bind_ok : {A B : Type 0} (r : Result A Fault) (f : A → Result B Fault) (y : B) → (r >>= f) ≡ Ok y → (x : A) × (r ≡ Ok x) × (f x ≡ Ok y)
+pub bind_ok : {A B : Type 0} (r : Result A Stop) (f : A → Result B Stop) (y : B) → (r >>= f) ≡ Ok y → (x : A) × (r ≡ Ok x) × (f x ≡ Ok y)
 bind_ok (Ok x) f y h = (x, refl, h)
 bind_ok (Err d) f y h = absurd cc
 
-pub chosen : {A : Type 0} (c : Bool) (r : Result A Fault) (f : Fault) (x : A) → cond c r (Err f) ≡ Ok x → r ≡ Ok x
+pub chosen : {A : Type 0} (c : Bool) (r : Result A Stop) (f : Stop) (x : A) → cond c r (Err f) ≡ Ok x → r ≡ Ok x
 chosen true r f x h = h
 chosen false r f x h = absurd cc
-
-pub left_fault : (cause : Cause) (n : ℕ) → left_at (fault cause n) ≡ n
-left_fault syntax n = refl
-left_fault depth n = refl
-left_fault name n = refl
-
-same_fault : (cause other : Cause) (m n : ℕ) → fault cause m ≡ fault other n → (cause ≡ other) × (m ≡ n)
-same_fault syntax syntax m n h = (refl, ap left_at h)
-same_fault depth depth m n h = (refl, ap left_at h)
-same_fault name name m n h = (refl, ap left_at h)
-same_fault syntax depth m n h = absurd cc
-same_fault syntax name m n h = absurd cc
-same_fault depth syntax m n h = absurd cc
-same_fault depth name m n h = absurd cc
-same_fault name syntax m n h = absurd cc
-same_fault name depth m n h = absurd cc
 
 -- ---- lists
 
@@ -105,7 +79,7 @@ longer_cut (a ∷ s) x (b ∷ u) z h lt = longer_cut s x u z (ap (λ (l : List T
 module _ {A : Type 0} (even : Type 0) (p q : Reader A) (inside : Steady even p q) where
   pub reach : (o : Outcome A) → Firm even o → (ts x : List Token) → p ts ≡ seen o x → length x < length ts
   reach (answered v d r) firm ts x h = let m = inside.suffix ts (v, d, r ++ x) h in omega (arith, firm, ap length m.1, length-append m.0 (r ++ x), length-append r x)
-  reach (refused cause n) firm ts x h = omega (arith, inside.left ts (fault cause (suc n + length x)) h, left_fault cause (suc n + length x))
+  reach (refused cause r) firm ts x h = omega (arith, firm.0, inside.left ts (cause, r ++ x) h, length-append r x)
 
 -- ---- values and faults
 
@@ -115,7 +89,7 @@ module _ {A : Type 0} (even : Type 0) where
       let e : (v, d, s ++ x) ≡ (w, c, r ++ x) = done_is (v, d, s ++ x) (w, c, r ++ x) h in
       let l : s ≡ r = append_cancel_right s r x (ap (λ (z : Read A). z.2) e) in
       rw (ap (λ (z : Read A). z.0) e, ap (λ (z : Read A). z.1) e, l) refl
-  pure_stays v d (refused cause n) firm s x y h = absurd cc
+  pure_stays v d (refused cause r) firm s x y h = absurd cc
 
   pub steady_pure : (v : A) (d : ℕ) → Steady even (λ ts. Ok (v, d, ts)) (λ ts. Ok (v, d, ts))
   steady_pure v d = record {
@@ -124,27 +98,28 @@ module _ {A : Type 0} (even : Type 0) where
     stays = pure_stays v d;
   }
 
-  stop_stays : (cause : Cause) (q : Reader A) → (Holds even cause → (ts : List Token) → q ts ≡ Err (fault cause (length ts))) → (o : Outcome A) → Firm even o → (s x y : List Token) → refuse (fault cause (length (s ++ x))) ≡ seen o x → q (s ++ y) ≡ seen o y
+  stop_stays : (cause : Cause) (q : Reader A) → (Holds even cause → (ts : List Token) → q ts ≡ Err (cause, ts)) → (o : Outcome A) → Firm even o → (s x y : List Token) → refuse (cause, s ++ x) ≡ seen o x → q (s ++ y) ≡ seen o y
   stop_stays cause q h (answered w c r) firm s x y e = absurd cc
-  stop_stays cause q h (refused other n) firm s x y e =
-      let m = same_fault cause other (length (s ++ x)) (suc n + length x) (fault_is {A = Read A} (fault cause (length (s ++ x))) (fault other (suc n + length x)) e) in
-      let l : length (s ++ y) ≡ suc n + length y = omega (arith, m.1, length-append s x, length-append s y) in
-      h (subst (λ (c : Cause). Holds even c) (sym m.0) firm) (s ++ y) ∙ rw (m.0, l) refl
+  stop_stays cause q h (refused other r) firm s x y e =
+      let m : (cause, s ++ x) ≡ (other, r ++ x) = fault_is {A = Read A} (cause, s ++ x) (other, r ++ x) e in
+      let l : s ≡ r = append_cancel_right s r x (ap (λ (z : Stop). z.1) m) in
+      let c : cause ≡ other = ap (λ (z : Stop). z.0) m in
+      h (subst (λ (i : Cause). Holds even i) (sym c) firm.1) (s ++ y) ∙ rw (c, l) refl
 
   -- it stops at once
-  pub steady_stop : (cause : Cause) (q : Reader A) → (Holds even cause → (ts : List Token) → q ts ≡ Err (fault cause (length ts))) → Steady even (λ ts. Err (fault cause (length ts))) q
+  pub steady_stop : (cause : Cause) (q : Reader A) → (Holds even cause → (ts : List Token) → q ts ≡ Err (cause, ts)) → Steady even (λ ts. Err (cause, ts)) q
   steady_stop cause q h = record {
     suffix = λ ts x e. absurd cc;
-    left = λ ts f e. (let m : fault cause (length ts) ≡ f = fault_is {A = Read A} (fault cause (length ts)) f e in omega (arith, ap left_at (sym m), left_fault cause (length ts)));
+    left = λ ts f e. (let m : (cause, ts) ≡ f = fault_is {A = Read A} (cause, ts) f e in omega (arith, ap (λ (z : Stop). length z.1) m));
     stays = stop_stays cause q h;
   }
 
-  pub steady_fail : Steady {A = A} even (λ ts. Err (Syntax (length ts))) (λ ts. Err (Syntax (length ts)))
-  steady_fail = steady_stop syntax (λ ts. Err (Syntax (length ts))) (λ _ ts. refl)
+  pub steady_fail : Steady {A = A} even (λ ts. Err (syntax, ts)) (λ ts. Err (syntax, ts))
+  steady_fail = steady_stop syntax (λ ts. Err (syntax, ts)) (λ _ ts. refl)
 
   -- no room, where q may have room unless the two allowances are even
-  pub steady_deep : (q : Reader A) → (even → (ts : List Token) → q ts ≡ Err (TooDeep (length ts))) → Steady even (λ ts. Err (TooDeep (length ts))) q
-  steady_deep q h = steady_stop depth q h
+  pub steady_deep : (q : Reader A) → (even → (ts : List Token) → q ts ≡ Err (too_deep, ts)) → Steady even (λ ts. Err (too_deep, ts)) q
+  steady_deep q h = steady_stop too_deep q h
 
 -- ---- one after the other
 
@@ -163,7 +138,7 @@ module _ {A B : Type 0} (even : Type 0) (p p' : Reader A) (k k' : A → ℕ → 
       let n = (next y.0 y.1).suffix y.2 x b.2 in
       (m.0 ++ n.0, m.1 ∙ ap (λ (z : List Token). m.0 ++ z) n.1 ∙ sym (append_assoc m.0 n.0 x.2))
 
-  bind_left : (ts : List Token) (f : Fault) → both ts ≡ Err f → left_at f ≤ length ts
+  bind_left : (ts : List Token) (f : Stop) → both ts ≡ Err f → length f.1 ≤ length ts
   bind_left ts f h =
       elim (bind_err (p ts) (λ x. k x.0 x.1 x.2) f h) [
         | inl e ↦ first.left ts f e
@@ -183,10 +158,10 @@ module _ {A B : Type 0} (even : Type 0) (p p' : Reader A) (k k' : A → ℕ → 
   bind_stays (answered v d r) firm s x y h =
       let b = bind_ok (p (s ++ x)) (λ x. k x.0 x.1 x.2) (v, d, r ++ x) h in
       on_stays (answered v d r) firm s x y b.0 b.1 b.2
-  bind_stays (refused cause n) firm s x y h =
-      elim (bind_err (p (s ++ x)) (λ x. k x.0 x.1 x.2) (fault cause (suc n + length x)) h) [
-        | inl e ↦ ap (λ (w : Out A). w >>= λ x. k' x.0 x.1 x.2) (first.stays (refused cause n) firm s x y e)
-        | inr b ↦ on_stays (refused cause n) firm s x y b.0 b.1 b.2
+  bind_stays (refused cause r) firm s x y h =
+      elim (bind_err (p (s ++ x)) (λ x. k x.0 x.1 x.2) (cause, r ++ x) h) [
+        | inl e ↦ ap (λ (w : Out A). w >>= λ x. k' x.0 x.1 x.2) (first.stays (refused cause r) firm s x y e)
+        | inr b ↦ on_stays (refused cause r) firm s x y b.0 b.1 b.2
       ]
 
   pub steady_bind : Steady even both both'
@@ -213,7 +188,7 @@ module _ {A : Type 0} (even : Type 0) (p q : Reader A) (inside : Steady even p q
   skip_suffix [] x e = inside.suffix [] x e
   skip_suffix (t ∷ ts) x e = let m = inside.suffix ts x e in (t ∷ m.0, ap (λ (z : List Token). t ∷ z) m.1)
 
-  skip_left : (ts : List Token) (f : Fault) → p (drop 1 ts) ≡ Err f → left_at f ≤ length ts
+  skip_left : (ts : List Token) (f : Stop) → p (drop 1 ts) ≡ Err f → length f.1 ≤ length ts
   skip_left [] f e = inside.left [] f e
   skip_left (t ∷ ts) f e = omega (arith, inside.left ts f e)
 
@@ -261,8 +236,8 @@ module _ {A : Type 0} (even : Type 0) where
   steady_choose false p p' f f' one other = other
 
   -- no room in p, or none in both
-  pub steady_if_deep : (b b' : Bool) (p p' : Reader A) → (b ≡ false → b' ≡ false) → (even → b ≡ b') → Steady even p p' → Steady even (λ ts. cond b (Err (TooDeep (length ts))) (p ts)) (λ ts. cond b' (Err (TooDeep (length ts))) (p' ts))
-  steady_if_deep true b' p p' wider tie inside = steady_deep even (λ ts. cond b' (Err (TooDeep (length ts))) (p' ts)) (λ is ts. ap (λ c. cond c (Err (TooDeep (length ts))) (p' ts)) (sym (tie is)))
+  pub steady_if_deep : (b b' : Bool) (p p' : Reader A) → (b ≡ false → b' ≡ false) → (even → b ≡ b') → Steady even p p' → Steady even (λ ts. cond b (Err (too_deep, ts)) (p ts)) (λ ts. cond b' (Err (too_deep, ts)) (p' ts))
+  steady_if_deep true b' p p' wider tie inside = steady_deep even (λ ts. cond b' (Err (too_deep, ts)) (p' ts)) (λ is ts. ap (λ c. cond c (Err (too_deep, ts)) (p' ts)) (sym (tie is)))
   steady_if_deep false true p p' wider tie inside = absurd (let h : true ≡ false = wider refl in cc)
   steady_if_deep false false p p' wider tie inside = inside
 
@@ -284,13 +259,13 @@ module _ {A : Type 0} (even : Type 0) (h h' : Terminal → Reader A) (each : (q 
       (λ ts. ap (λ q. h q ts) (next_alike ts)) (λ ts. ap (λ q. h' q ts) (next_alike ts)) (steady_look even (λ o. h (next_at o)) (λ o. h' (next_at o)) (λ o. each (next_at o)))
 
 -- a reader by its first token
-module _ {A : Type 0} (even : Type 0) (p q : Reader A) (h h' : Token → Reader A) (none : p [] ≡ Err (Syntax 0)) (none' : q [] ≡ Err (Syntax 0)) (some : (x : Token) (ts : List Token) → p (x ∷ ts) ≡ h x (x ∷ ts)) (some' : (x : Token) (ts : List Token) → q (x ∷ ts) ≡ h' x (x ∷ ts))
+module _ {A : Type 0} (even : Type 0) (p q : Reader A) (h h' : Token → Reader A) (none : p [] ≡ Err (syntax, [])) (none' : q [] ≡ Err (syntax, [])) (some : (x : Token) (ts : List Token) → p (x ∷ ts) ≡ h x (x ∷ ts)) (some' : (x : Token) (ts : List Token) → q (x ∷ ts) ≡ h' x (x ∷ ts))
     (each : (x : Token) → Steady even (h x) (h' x)) where
   by_first : (Token → Reader A) → Option Token → Reader A
-  by_first g None = λ ts. Err (Syntax (length ts))
+  by_first g None = λ ts. Err (syntax, ts)
   by_first g (Some x) = g x
 
-  first_alike : (r : Reader A) (g : Token → Reader A) → r [] ≡ Err (Syntax 0) → ((x : Token) (ts : List Token) → r (x ∷ ts) ≡ g x (x ∷ ts)) → (ts : List Token) → r ts ≡ by_first g (front_of ts) ts
+  first_alike : (r : Reader A) (g : Token → Reader A) → r [] ≡ Err (syntax, []) → ((x : Token) (ts : List Token) → r (x ∷ ts) ≡ g x (x ∷ ts)) → (ts : List Token) → r ts ≡ by_first g (front_of ts) ts
   unfolding by_first
   first_alike r g empty full [] = empty
   first_alike r g empty full (x ∷ ts) = full x ts
@@ -320,41 +295,41 @@ module _ {A : Type 0} (even : Type 0) (q : Terminal) (p p' : Reader A) (inside :
       (λ ts. ap (λ c. cond c (p ts) (f ts)) (sees_alike q ts)) (λ ts. ap (λ c. cond c (p' ts) (f' ts)) (sees_alike q ts))
       (steady_look even (λ o ts. cond (sees_at q o) (p ts) (f ts)) (λ o ts. cond (sees_at q o) (p' ts) (f' ts)) (λ o. steady_choose even (sees_at q o) p p' f f' inside other))
 
-  choice_then : (c : Bool) (rest : List Token) (f : Fault) (k : Reader A) → (cond c (Ok rest) (Err f) >>= k) ≡ cond c (k rest) (Err f)
+  choice_then : (c : Bool) (rest : List Token) (f : Stop) (k : Reader A) → (cond c (Ok rest) (Err f) >>= k) ≡ cond c (k rest) (Err f)
   choice_then true rest f k = refl
   choice_then false rest f k = refl
 
-  expect_some : (k : Reader A) (x : Token) (ts : List Token) → (expect q (x ∷ ts) >>= k) ≡ cond (same (terminal x) q) (k (drop 1 (x ∷ ts))) (Err (Syntax (length (x ∷ ts))))
+  expect_some : (k : Reader A) (x : Token) (ts : List Token) → (expect q (x ∷ ts) >>= k) ≡ cond (same (terminal x) q) (k (drop 1 (x ∷ ts))) (Err (syntax, x ∷ ts))
   unfolding expect
-  expect_some k x ts = choice_then (same (terminal x) q) ts (Syntax (length (x ∷ ts))) k
+  expect_some k x ts = choice_then (same (terminal x) q) ts (syntax, x ∷ ts) k
 
-  expect_none : (k : Reader A) → (expect q [] >>= k) ≡ Err (Syntax 0)
+  expect_none : (k : Reader A) → (expect q [] >>= k) ≡ Err (syntax, [])
   unfolding expect
   expect_none k = refl
 
   pub steady_expect : Steady even (λ ts. expect q ts >>= p) (λ ts. expect q ts >>= p')
   steady_expect =
-      steady_first even _ _ (λ x ts. cond (same (terminal x) q) (p (drop 1 ts)) (Err (Syntax (length ts)))) (λ x ts. cond (same (terminal x) q) (p' (drop 1 ts)) (Err (Syntax (length ts))))
+      steady_first even _ _ (λ x ts. cond (same (terminal x) q) (p (drop 1 ts)) (Err (syntax, ts))) (λ x ts. cond (same (terminal x) q) (p' (drop 1 ts)) (Err (syntax, ts)))
       (expect_none p) (expect_none p') (expect_some p) (expect_some p')
-      (λ x. steady_choose even (same (terminal x) q) (λ ts. p (drop 1 ts)) (λ ts. p' (drop 1 ts)) (λ ts. Err (Syntax (length ts))) (λ ts. Err (Syntax (length ts))) (steady_skip even p p' inside) (steady_fail even))
+      (λ x. steady_choose even (same (terminal x) q) (λ ts. p (drop 1 ts)) (λ ts. p' (drop 1 ts)) (λ ts. Err (syntax, ts)) (λ ts. Err (syntax, ts)) (steady_skip even p p' inside) (steady_fail even))
 
 -- ---- room
 
 module _ {A : Type 0} (even : Type 0) (a a' : ℕ) (le : a ≤ a') (tie : even → a ≡ a') (p p' : Reader A) (inside : Steady even p p') where
   room_steady : (n m : ℕ) → n ≤ m → (even → n ≡ m) → Steady even (λ ts. room n ts >> p ts) (λ ts. room m ts >> p' ts)
   unfolding room
-  room_steady zero m fits equal = steady_stop even depth (λ ts. room m ts >> p' ts) (λ is ts. ap (λ i. room i ts >> p' ts) (sym (equal is)))
+  room_steady zero m fits equal = steady_stop even too_deep (λ ts. room m ts >> p' ts) (λ is ts. ap (λ i. room i ts >> p' ts) (sym (equal is)))
   room_steady (suc n) zero fits equal = absurd (omega arith)
   room_steady (suc n) (suc m) fits equal = inside
 
-  told_steady : (n m : ℕ) → n ≤ m → (even → n ≡ m) → Steady even (λ ts. room_told n ts >> p ts) (λ ts. room_told m ts >> p' ts)
+  told_steady : (w : Token) (n m : ℕ) → n ≤ m → (even → n ≡ m) → Steady even (λ ts. room_told n w ts >> p ts) (λ ts. room_told m w ts >> p' ts)
   unfolding room_told
-  told_steady zero m fits equal = steady_stop even name (λ ts. room_told m ts >> p' ts) (λ is ts. ap (λ i. room_told i ts >> p' ts) (sym (equal is)))
-  told_steady (suc n) zero fits equal = absurd (omega arith)
-  told_steady (suc n) (suc m) fits equal = inside
+  told_steady w zero m fits equal = steady_stop even (told_too_deep w) (λ ts. room_told m w ts >> p' ts) (λ is ts. ap (λ i. room_told i w ts >> p' ts) (sym (equal is)))
+  told_steady w (suc n) zero fits equal = absurd (omega arith)
+  told_steady w (suc n) (suc m) fits equal = inside
 
   pub steady_room : Steady even (λ ts. room a ts >> p ts) (λ ts. room a' ts >> p' ts)
   steady_room = room_steady a a' le tie
 
-  pub steady_told : Steady even (λ ts. room_told a ts >> p ts) (λ ts. room_told a' ts >> p' ts)
-  steady_told = told_steady a a' le tie
+  pub steady_told : (w : Token) → Steady even (λ ts. room_told a w ts >> p ts) (λ ts. room_told a' w ts >> p' ts)
+  steady_told w = told_steady w a a' le tie

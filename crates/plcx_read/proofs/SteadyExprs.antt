@@ -1,20 +1,19 @@
 -- The readers of single tokens and of expressions are steady.
-use Rattle.std.proofs.Common.{◌≡◌, ℕ, ℤ, zero, suc, ◌+◌, ◌≤◌, max, cond, ltb, List, [], ◌∷◌, length, drop, Option, Some, None, Ok, Err, refl, ap, arith}
+use Rattle.std.proofs.Common.{◌≡◌, ℕ, ℤ, zero, suc, ◌+◌, ◌≤◌, max, cond, ltb, List, [], ◌∷◌, drop, Option, Some, None, Ok, Err, refl, ap, arith}
 use Rattle.std.proofs.lemmas.Bool.{le-ltb, ltb-false}
 use Rattle.plcx_types.specs.declared.ty.Ty.{Ty}
 use Rattle.plcx_lex.specs.Token.{Token}
 use Rattle.plcx_lex.specs.ReadNumber.{literal_of}
-use Rattle.plcx_st.specs.declared.terminal.Terminal.{Terminal}
-use Rattle.plcx_st.specs.declared.terminal.Terminal.TheVariants as t
-use Rattle.plcx_st.specs.Terminal.{terminal}
-use Rattle.plcx_st.specs.Place.{Syntax, TooDeep}
+use Rattle.plcx_lex.specs.declared.terminal.Terminal.{Terminal}
+use Rattle.plcx_lex.specs.declared.terminal.Terminal.TheVariants as t
+use Rattle.plcx_lex.specs.Terminal.{terminal}
 use Rattle.plcx_st.specs.Grammar.{word, number, operator, level, tightest}
 use Rattle.plcx_st.specs.declared.tree.Word.{Word}
 use Rattle.plcx_st.specs.declared.tree.Number.{Number}
 use Rattle.plcx_st.specs.declared.tree.Op.{Op}
 use Rattle.plcx_st.specs.declared.tree.Expr.{Expr}
 use Rattle.plcx_st.specs.declared.tree.Expr.TheVariants as e
-use Rattle.plcx_read.specs.Reading.{Out, ◌>>=◌, same, next, expect, name_at, with_literal, literal_at, list_of, binding, with_operator, call, member, bracketed, negated, named_by, valued, operand_by, operand, climb, level_of, expr}
+use Rattle.plcx_read.specs.Reading.{syntax, too_deep, Out, ◌>>=◌, same, next, expect, name_at, with_literal, literal_at, list_of, binding, with_operator, call, member, bracketed, negated, named_by, valued, operand_by, operand, climb, level_of, expr}
 use Rattle.plcx_read.proofs.Steady.{Reader, Steady, steady_pure, steady_fail, steady_deep, steady_bind, steady_skip, steady_alike, steady_choose, steady_if_deep, steady_next, steady_first, steady_expect, steady_room, steady_told}
 use Rattle.plcx_read.proofs.SteadyLoops.{Leaves, leaves, steady_list}
 
@@ -24,12 +23,12 @@ module _ (even : Type 0) where
   pub steady_name : Steady even name_at name_at
   unfolding name_at
   steady_name =
-      let h : Token → Reader Word = λ x ts. cond (same (terminal x) t.Name) (Ok (word x, 0, drop 1 ts)) (Err (Syntax (length ts))) in
+      let h : Token → Reader Word = λ x ts. cond (same (terminal x) t.Name) (Ok (word x, 0, drop 1 ts)) (Err (syntax, ts)) in
       steady_first even name_at name_at h h refl refl (λ x ts. refl) (λ x ts. refl)
       (λ x. steady_choose even (same (terminal x) t.Name) _ _ _ _ (steady_skip even _ _ (steady_pure even (word x) 0)) (steady_fail even))
 
   abbrev literal_by : Option (Ty × ℤ) → Token → Reader Number
-  literal_by None x ts = Err (Syntax (length ts))
+  literal_by None x ts = Err (syntax, ts)
   literal_by (Some v) x ts = Ok (number x v.0 v.1, 0, drop 1 ts)
 
   literal_alike : (o : Option (Ty × ℤ)) (x : Token) (ts : List Token) → with_literal o x ts ≡ literal_by o x (x ∷ ts)
@@ -43,8 +42,8 @@ module _ (even : Type 0) where
   pub steady_literal : Steady even literal_at literal_at
   unfolding literal_at
   steady_literal =
-      let h : Token → Reader Number = λ x ts. cond (same (terminal x) t.Number) (literal_by (literal_of x.text) x ts) (Err (Syntax (length ts))) in
-      let alike : (x : Token) (ts : List Token) → literal_at (x ∷ ts) ≡ h x (x ∷ ts) = λ x ts. ap (λ (w : Out Number). cond (same (terminal x) t.Number) w (Err (Syntax (length (x ∷ ts))))) (literal_alike (literal_of x.text) x ts) in
+      let h : Token → Reader Number = λ x ts. cond (same (terminal x) t.Number) (literal_by (literal_of x.text) x ts) (Err (syntax, ts)) in
+      let alike : (x : Token) (ts : List Token) → literal_at (x ∷ ts) ≡ h x (x ∷ ts) = λ x ts. ap (λ (w : Out Number). cond (same (terminal x) t.Number) w (Err (syntax, x ∷ ts))) (literal_alike (literal_of x.text) x ts) in
       steady_first even literal_at literal_at h h refl refl alike alike (λ x. steady_choose even (same (terminal x) t.Number) _ _ _ _ (steady_literal_by (literal_of x.text) x) (steady_fail even))
 
 -- ---- operands
@@ -54,7 +53,7 @@ operand_kind a inner t.Name x ts = named_by a inner (next (drop 1 ts)) x (drop 1
 operand_kind a inner t.Number x ts = valued ts
 operand_kind a inner t.Open x ts = bracketed a inner ts
 operand_kind a inner t.Not x ts = negated a inner x ts
-operand_kind a inner _ x ts = Err (Syntax (length ts))
+operand_kind a inner _ x ts = Err (syntax, ts)
 
 kind_alike : (a : ℕ) (inner : ℕ → Reader Expr) (q : Terminal) (x : Token) (ts : List Token) → operand_by a inner q x ts ≡ operand_kind a inner q x (x ∷ ts)
 kind_alike a inner t.Name x ts = refl
@@ -64,15 +63,15 @@ operand_some : (a : ℕ) (inner : ℕ → Reader Expr) (x : Token) (ts : List To
 unfolding operand
 operand_some a inner x ts = kind_alike a inner (terminal x) x ts
 
-operand_none : (a : ℕ) (inner : ℕ → Reader Expr) → operand a inner [] ≡ Err (Syntax 0)
+operand_none : (a : ℕ) (inner : ℕ → Reader Expr) → operand a inner [] ≡ Err (syntax, [])
 unfolding operand
 operand_none a inner = refl
 
 -- what climbing does by the operator that comes
 climb_at : (a : ℕ) (inner : ℕ → Reader Expr) (n least : ℕ) (left : Expr) (depth : ℕ) → Option Op → Reader Expr
-climb_at a inner zero least left depth m ts = with_operator m (Ok (left, depth, ts)) (λ o. Err (TooDeep (length ts)))
+climb_at a inner zero least left depth m ts = with_operator m (Ok (left, depth, ts)) (λ o. Err (too_deep, ts))
 climb_at a inner (suc n) least left depth m ts =
-    with_operator m (Ok (left, depth, ts)) (λ o. cond (ltb a depth) (Err (TooDeep (length ts))) (inner (level o + 1) (drop 1 ts) >>= λ x. climb a inner n least (e.Binary o left x.0) (max depth x.1 + 1) x.2))
+    with_operator m (Ok (left, depth, ts)) (λ o. cond (ltb a depth) (Err (too_deep, ts)) (inner (level o + 1) (drop 1 ts) >>= λ x. climb a inner n least (e.Binary o left x.0) (max depth x.1 + 1) x.2))
 
 climb_alike : (a : ℕ) (inner : ℕ → Reader Expr) (n least : ℕ) (left : Expr) (depth : ℕ) (ts : List Token) → climb a inner n least left depth ts ≡ climb_at a inner n least left depth (binding least (operator (next ts))) ts
 unfolding climb climb_at
@@ -84,7 +83,7 @@ module _ (even : Type 0) (a a' : ℕ) (le : a ≤ a') (tie : even → a ≡ a') 
   unfolding call
   steady_call w =
       steady_told even a a' le tie _ _ (steady_bind even (λ ts. list_of (inner 0) (drop 1 ts)) (λ ts. list_of (inner' 0) (drop 1 ts)) (λ v d us. Ok (e.Call (word w) v, d + 1, us)) (λ v d us. Ok (e.Call (word w) v, d + 1, us))
-      (steady_skip even (λ ts. list_of (inner 0) ts) (λ ts. list_of (inner' 0) ts) (steady_list even (inner 0) (inner' 0) (each 0) less less')) (λ v d. steady_pure even (e.Call (word w) v) (d + 1)))
+      (steady_skip even (λ ts. list_of (inner 0) ts) (λ ts. list_of (inner' 0) ts) (steady_list even (inner 0) (inner' 0) (each 0) less less')) (λ v d. steady_pure even (e.Call (word w) v) (d + 1))) w
 
   steady_member : (w : Token) → Steady even (member w) (member w)
   unfolding member
@@ -138,7 +137,7 @@ module _ (even : Type 0) (a a' : ℕ) (le : a ≤ a') (tie : even → a ≡ a') 
   unfolding climb_at
   steady_end zero least left depth equal None = steady_pure even left depth
   steady_end (suc g) least left depth equal None = steady_pure even left depth
-  steady_end zero least left depth equal (Some o) = steady_deep even (λ ts. Err (TooDeep (length ts))) (λ is ts. refl)
+  steady_end zero least left depth equal (Some o) = steady_deep even (λ ts. Err (too_deep, ts)) (λ is ts. refl)
   steady_end (suc g) least left depth equal (Some o) = steady_deep even (climb_at a' inner' (suc g) least left depth (Some o)) (λ is ts. absurd (let h : 0 ≡ suc g = equal is in omega arith))
 
   steady_looked : (f g least : ℕ) (left : Expr) (depth : ℕ) → ((m : Option Op) → Steady even (climb_at a inner f least left depth m) (climb_at a' inner' g least left depth m))
@@ -163,7 +162,7 @@ module _ (even : Type 0) (a a' : ℕ) (le : a ≤ a') (tie : even → a ≡ a') 
 -- beside itself
 self_steady : (a least : ℕ) → Steady ⊥ (expr a least) (expr a least)
 unfolding expr
-self_steady zero least = steady_deep ⊥ (λ ts. Err (TooDeep (length ts))) (λ is ts. refl)
+self_steady zero least = steady_deep ⊥ (λ ts. Err (too_deep, ts)) (λ is ts. refl)
 self_steady (suc a) least =
     let less : Leaves (expr a 0) = leaves ⊥ (expr a 0) (expr a 0) (self_steady a 0) in
     steady_level ⊥ a a (omega arith) (λ is. refl) (expr a) (expr a) (self_steady a) less less least
@@ -173,7 +172,7 @@ expr_leaves a = leaves ⊥ (expr a 0) (expr a 0) (self_steady a 0)
 
 pub steady_expr : (even : Type 0) (a a' : ℕ) → a ≤ a' → (even → a ≡ a') → (least : ℕ) → Steady even (expr a least) (expr a' least)
 unfolding expr
-steady_expr even zero zero le tie least = steady_deep even (λ ts. Err (TooDeep (length ts))) (λ is ts. refl)
+steady_expr even zero zero le tie least = steady_deep even (λ ts. Err (too_deep, ts)) (λ is ts. refl)
 steady_expr even zero (suc a') le tie least = steady_deep even (expr (suc a') least) (λ is ts. absurd (let h : 0 ≡ suc a' = tie is in omega arith))
 steady_expr even (suc a) zero le tie least = absurd (omega arith)
 steady_expr even (suc a) (suc a') le tie least =

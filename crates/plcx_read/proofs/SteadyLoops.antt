@@ -1,14 +1,13 @@
 -- The loops of the reader are steady where what they repeat is.
 use Rattle.std.proofs.Common.{◌≡◌, ℕ, zero, suc, ◌+◌, ◌≤◌, ◌<◌, Bool, true, false, cond, max, length-append, List, [], ◌∷◌, ◌++◌, length, drop, Result, Ok, Err, refl, ap, arith}
 use Rattle.plcx_lex.specs.Token.{Token}
-use Rattle.plcx_st.specs.declared.terminal.Terminal.{Terminal}
-use Rattle.plcx_st.specs.declared.terminal.Terminal.TheVariants as t
-use Rattle.plcx_st.specs.Place.{Fault}
-use Rattle.plcx_read.specs.Reading.{Read, ◌>>=◌, next, sees, expect, several, all_of, parted, list_of}
+use Rattle.plcx_lex.specs.declared.terminal.Terminal.{Terminal}
+use Rattle.plcx_lex.specs.declared.terminal.Terminal.TheVariants as t
+use Rattle.plcx_read.specs.Reading.{Stop, Read, ◌>>=◌, next, sees, expect, several, all_of, parted, list_of}
 use Rattle.plcx_read.proofs.Steady.{Reader, Steady, steady_pure, steady_fail, steady_bind, steady_choose, steady_next, steady_sees, steady_skip, steady_expect, steady_turns}
 
 -- the same answers to what both go on from
-pub same_answers : {A B : Type 0} (r : Result A Fault) (f g : A → Result B Fault) → ((x : A) → r ≡ Ok x → f x ≡ g x) → (r >>= f) ≡ (r >>= g)
+pub same_answers : {A B : Type 0} (r : Result A Stop) (f g : A → Result B Stop) → ((x : A) → r ≡ Ok x → f x ≡ g x) → (r >>= f) ≡ (r >>= g)
 same_answers (Ok x) f g h = h x refl
 same_answers (Err d) f g h = refl
 

@@ -1,22 +1,21 @@
 -- The readers of statements are steady.
 use Rattle.std.proofs.Common.{◌≡◌, ℕ, zero, suc, ◌+◌, ◌≤◌, max, cond, List, [], ◌∷◌, length, drop, Result, Ok, Err, refl, sym, ◌∙◌, arith}
 use Rattle.plcx_lex.specs.Token.{Token}
-use Rattle.plcx_st.specs.declared.terminal.Terminal.{Terminal}
-use Rattle.plcx_st.specs.declared.terminal.Terminal.TheVariants as t
-use Rattle.plcx_st.specs.Terminal.{terminal}
-use Rattle.plcx_st.specs.Place.{Fault, Syntax, TooDeep}
+use Rattle.plcx_lex.specs.declared.terminal.Terminal.{Terminal}
+use Rattle.plcx_lex.specs.declared.terminal.Terminal.TheVariants as t
+use Rattle.plcx_lex.specs.Terminal.{terminal}
 use Rattle.plcx_st.specs.Grammar.{word, label}
 use Rattle.plcx_st.specs.declared.tree.Expr.{Expr}
 use Rattle.plcx_st.specs.declared.tree.Arg.{Arg}
 use Rattle.plcx_st.specs.declared.tree.Arm.{Arm}
 use Rattle.plcx_st.specs.declared.tree.Stmt.{Stmt}
 use Rattle.plcx_st.specs.declared.tree.Stmt.TheVariants as s
-use Rattle.plcx_read.specs.Reading.{Out, Read, ◌>>=◌, ◌>>◌, same, next, expect, room, all_of, list_of, expr, begins_stmt, is_digits, closed, assigned, argument, called_with, called_bare, called, named_stmt_by, head, conditional, repeated, arm, selected, statement_by, statement_of, statement}
+use Rattle.plcx_read.specs.Reading.{Stop, syntax, too_deep, Out, Read, ◌>>=◌, ◌>>◌, same, next, expect, room, all_of, list_of, expr, begins_stmt, is_digits, closed, assigned, argument, called_with, called_bare, called, named_stmt_by, head, conditional, repeated, arm, selected, statement_by, statement_of, statement}
 use Rattle.plcx_read.proofs.Steady.{Reader, done, bind_ok, never_both, chosen, Steady, steady_pure, steady_fail, steady_deep, steady_bind, steady_skip, steady_alike, steady_choose, steady_next, steady_first, steady_sees, steady_expect, steady_room, steady_told}
 use Rattle.plcx_read.proofs.SteadyLoops.{Eats, Leaves, leaves, steady_list, steady_all}
 use Rattle.plcx_read.proofs.SteadyExprs.{steady_expr}
 
-regroup : {A B C : Type 0} (r : Result A Fault) (f : A → Result B Fault) (g : B → Result C Fault) → ((r >>= f) >>= g) ≡ (r >>= λ x. f x >>= g)
+regroup : {A B C : Type 0} (r : Result A Stop) (f : A → Result B Stop) (g : B → Result C Stop) → ((r >>= f) >>= g) ≡ (r >>= λ x. f x >>= g)
 regroup (Ok x) f g = refl
 regroup (Err d) f g = refl
 
@@ -29,9 +28,9 @@ steady_closed even q p p' inside =
 
 -- a reader behind a name
 argument_kind : ℕ → Token → Reader Arg
-argument_kind b x ts = cond (same (terminal x) t.Name) (room b ts >> (expect t.Assign (drop 1 ts) >>= λ rest. expr b 0 rest >>= λ v. Ok (record { formal = word x; value = v.0 }, v.1, v.2))) (Err (Syntax (length ts)))
+argument_kind b x ts = cond (same (terminal x) t.Name) (room b ts >> (expect t.Assign (drop 1 ts) >>= λ rest. expr b 0 rest >>= λ v. Ok (record { formal = word x; value = v.0 }, v.1, v.2))) (Err (syntax, ts))
 
-argument_none : (b : ℕ) → argument b [] ≡ Err (Syntax 0)
+argument_none : (b : ℕ) → argument b [] ≡ Err (syntax, [])
 unfolding argument
 argument_none b = refl
 
@@ -40,9 +39,9 @@ unfolding argument argument_kind
 argument_some b x ts = refl
 
 arm_kind : (List Token → Out (List Stmt)) → Token → Reader Arm
-arm_kind inner l ts = cond (same (terminal l) t.Digits) (expect t.Colon (drop 1 ts) >>= λ rest. inner rest >>= λ ss. Ok (record { label = label l; span = l.span; body = ss.0 }, ss.1, ss.2)) (Err (Syntax (length ts)))
+arm_kind inner l ts = cond (same (terminal l) t.Digits) (expect t.Colon (drop 1 ts) >>= λ rest. inner rest >>= λ ss. Ok (record { label = label l; span = l.span; body = ss.0 }, ss.1, ss.2)) (Err (syntax, ts))
 
-arm_none : (b : ℕ) (inner : List Token → Out (List Stmt)) → arm inner [] ≡ Err (Syntax 0)
+arm_none : (b : ℕ) (inner : List Token → Out (List Stmt)) → arm inner [] ≡ Err (syntax, [])
 unfolding arm
 arm_none b inner = refl
 
@@ -55,13 +54,13 @@ statement_kind b inner t.Name x ts = named_stmt_by b (next (drop 1 ts)) x (drop 
 statement_kind b inner t.If x ts = conditional b inner ts
 statement_kind b inner t.While x ts = repeated b inner ts
 statement_kind b inner t.Case x ts = selected b inner ts
-statement_kind b inner _ x ts = Err (Syntax (length ts))
+statement_kind b inner _ x ts = Err (syntax, ts)
 
 kind_alike : (b : ℕ) (inner : List Token → Out (List Stmt)) (q : Terminal) (x : Token) (ts : List Token) → statement_by b inner q x ts ≡ statement_kind b inner q x (x ∷ ts)
 kind_alike b inner t.Name x ts = refl
 kind_alike b inner _ x ts = refl
 
-statement_none : (b : ℕ) (inner : List Token → Out (List Stmt)) → statement_of b inner [] ≡ Err (Syntax 0)
+statement_none : (b : ℕ) (inner : List Token → Out (List Stmt)) → statement_of b inner [] ≡ Err (syntax, [])
 unfolding statement_of
 statement_none b inner = refl
 
@@ -93,7 +92,7 @@ module _ (even : Type 0) (b b' : ℕ) (le : b ≤ b') (tie : even → b ≡ b') 
   assigned_steady w =
       steady_told even b b' le tie _ _ (steady_bind even (λ ts. expr b 0 (drop 1 ts)) (λ ts. expr b' 0 (drop 1 ts))
       (λ v d us. expect t.Semicolon us >>= λ rest. Ok (s.Assign (word w) v, d + 1, rest)) (λ v d us. expect t.Semicolon us >>= λ rest. Ok (s.Assign (word w) v, d + 1, rest))
-      (steady_skip even (expr b 0) (expr b' 0) (each even b b' le tie 0)) (λ v d. steady_expect even t.Semicolon _ _ (steady_pure even (s.Assign (word w) v) (d + 1))))
+      (steady_skip even (expr b 0) (expr b' 0) (each even b b' le tie 0)) (λ v d. steady_expect even t.Semicolon _ _ (steady_pure even (s.Assign (word w) v) (d + 1)))) w
 
   bare_steady : (w : Token) → Steady even (called_bare b w) (called_bare b' w)
   unfolding called_bare
@@ -195,12 +194,12 @@ module _ (b : ℕ) where
     arm_takes : (l : Token) (ts : List Token) (r : Read Arm) → arm inner (l ∷ ts) ≡ Ok r → length r.2 ≤ length ts
     unfolding arm
     arm_takes l ts r h =
-        let g = chosen (same (terminal l) t.Digits) (expect t.Colon ts >>= λ rest. inner rest >>= λ ss. Ok (record { label = label l; span = l.span; body = ss.0 }, ss.1, ss.2)) (Syntax (length (l ∷ ts))) r h in
+        let g = chosen (same (terminal l) t.Digits) (expect t.Colon ts >>= λ rest. inner rest >>= λ ss. Ok (record { label = label l; span = l.span; body = ss.0 }, ss.1, ss.2)) (syntax, l ∷ ts) r h in
         let s = steady_expect ⊥ t.Colon _ _ (steady_bind ⊥ inner inner (λ v d us. Ok (record { label = label l; span = l.span; body = v }, d, us)) (λ v d us. Ok (record { label = label l; span = l.span; body = v }, d, us)) parts (λ v d. steady_pure ⊥ (record { label = label l; span = l.span; body = v }) d)) in
         leaves ⊥ _ _ s ts r g
 
     arm_eats : Eats (arm inner)
-    arm_eats [] r h = absurd (never_both r (Syntax 0) (sym h ∙ arm_none b inner))
+    arm_eats [] r h = absurd (never_both r (syntax, []) (sym h ∙ arm_none b inner))
     arm_eats (l ∷ ts) r h = omega (arith, arm_takes l ts r h)
 
     selected_takes : (x : Token) (xs : List Token) (r : Read Stmt) → selected b inner (x ∷ xs) ≡ Ok r → length r.2 ≤ length xs
@@ -221,11 +220,11 @@ module _ (b : ℕ) where
     kind_takes t.If x xs r h = blocked_takes t.Then t.EndIf (λ v ss. s.If v ss) x xs r h
     kind_takes t.While x xs r h = blocked_takes t.Do t.EndWhile (λ v ss. s.While v ss) x xs r h
     kind_takes t.Case x xs r h = selected_takes x xs r h
-    kind_takes _ x xs r h = absurd (never_both r (Syntax (length (x ∷ xs))) (sym h))
+    kind_takes _ x xs r h = absurd (never_both r (syntax, x ∷ xs) (sym h))
 
     statement_of_eats : Eats (statement_of b inner)
     unfolding statement_of
-    statement_of_eats [] r h = absurd (never_both r (Syntax 0) (sym h))
+    statement_of_eats [] r h = absurd (never_both r (syntax, []) (sym h))
     statement_of_eats (x ∷ xs) r h = omega (arith, kind_takes (terminal x) x xs r h)
 
 pub record Good (b : ℕ) : Type 0 where
@@ -234,7 +233,7 @@ pub record Good (b : ℕ) : Type 0 where
 
 pub good : (b : ℕ) → Good b
 unfolding statement
-good zero = record { eats = λ ts x h. absurd (never_both x (TooDeep (length ts)) (sym h)); alone = steady_deep ⊥ (λ ts. Err (TooDeep (length ts))) (λ is ts. refl) }
+good zero = record { eats = λ ts x h. absurd (never_both x (too_deep, ts) (sym h)); alone = steady_deep ⊥ (λ ts. Err (too_deep, ts)) (λ is ts. refl) }
 good (suc b) =
     let below = good b in
     let parts : Steady ⊥ (λ ts. all_of begins_stmt (statement b) ts) (λ ts. all_of begins_stmt (statement b) ts) = steady_all ⊥ begins_stmt (statement b) (statement b) below.alone below.eats below.eats in
@@ -254,7 +253,7 @@ arms_eat b = arm_eats b (λ ts. all_of begins_stmt (statement b) ts) (statements
 
 pub steady_statement : (even : Type 0) (b b' : ℕ) → b ≤ b' → (even → b ≡ b') → Steady even (statement b) (statement b')
 unfolding statement
-steady_statement even zero zero le tie = steady_deep even (λ ts. Err (TooDeep (length ts))) (λ is ts. refl)
+steady_statement even zero zero le tie = steady_deep even (λ ts. Err (too_deep, ts)) (λ is ts. refl)
 steady_statement even zero (suc b') le tie = steady_deep even (statement (suc b')) (λ is ts. absurd (let h : 0 ≡ suc b' = tie is in omega arith))
 steady_statement even (suc b) zero le tie = absurd (omega arith)
 steady_statement even (suc b) (suc b') le tie =

@@ -2,10 +2,9 @@
 use Rattle.std.proofs.Common.{◌≡◌, ℕ, zero, suc, ◌+◌, ◌≤◌, map, cond, List, [], ◌∷◌, length, drop, Option, Some, None, Ok, Err, refl, sym, ap, arith}
 use Rattle.std.specs.Char.{to_ascii_uppercase}
 use Rattle.plcx_lex.specs.Token.{Token}
-use Rattle.plcx_st.specs.declared.terminal.Terminal.{Terminal}
-use Rattle.plcx_st.specs.declared.terminal.Terminal.TheVariants as t
-use Rattle.plcx_st.specs.Terminal.{terminal}
-use Rattle.plcx_st.specs.Place.{Syntax, TooDeep}
+use Rattle.plcx_lex.specs.declared.terminal.Terminal.{Terminal}
+use Rattle.plcx_lex.specs.declared.terminal.Terminal.TheVariants as t
+use Rattle.plcx_lex.specs.Terminal.{terminal}
 use Rattle.plcx_st.specs.Grammar.{word, ending}
 use Rattle.plcx_st.specs.declared.tree.Word.{Word}
 use Rattle.plcx_st.specs.declared.tree.TextKind.{TextKind}
@@ -17,7 +16,7 @@ use Rattle.plcx_st.specs.declared.tree.Mark.TheVariants as mark
 use Rattle.plcx_st.specs.declared.tree.Decl.{Decl}
 use Rattle.plcx_st.specs.declared.tree.TextBlock.{TextBlock}
 use Rattle.plcx_st.specs.declared.tree.PouText.{PouText}
-use Rattle.plcx_read.specs.Reading.{Out, Read, ◌>>=◌, same, expect, name_at, literal_at, all_of, statement, begins_stmt, address_token, address_at, initial_at, decl, bare_decl, begins_decl, mark_by, block_of, marked_block, block_by, block, begins_block, pou_of, pou_by, begins_pou, pou}
+use Rattle.plcx_read.specs.Reading.{syntax, too_deep, Out, Read, ◌>>=◌, same, expect, name_at, literal_at, all_of, statement, begins_stmt, address_token, address_at, initial_at, decl, bare_decl, begins_decl, mark_by, block_of, marked_block, block_by, block, begins_block, pou_of, pou_by, begins_pou, pou}
 use Rattle.plcx_read.proofs.Steady.{Reader, bind_ok, never_both, chosen, Steady, steady_pure, steady_fail, steady_deep, steady_bind, steady_skip, steady_choose, steady_next, steady_first, steady_sees, steady_expect}
 use Rattle.plcx_read.proofs.SteadyLoops.{Eats, Leaves, leaves, steady_all}
 use Rattle.plcx_read.proofs.SteadyExprs.{steady_name, steady_literal}
@@ -25,9 +24,9 @@ use Rattle.plcx_read.proofs.SteadyStmts.{steady_statements}
 
 name_eats : Eats name_at
 unfolding name_at
-name_eats [] r h = absurd (never_both r (Syntax 0) (sym h))
+name_eats [] r h = absurd (never_both r (syntax, []) (sym h))
 name_eats (x ∷ ts) r h =
-    let e = chosen (same (terminal x) t.Name) (Ok (word x, 0, ts)) (Syntax (length (x ∷ ts))) r h in
+    let e = chosen (same (terminal x) t.Name) (Ok (word x, 0, ts)) (syntax, x ∷ ts) r h in
     omega (arith, ap (λ (w : Out Word). behind w) (sym e))
   where
     behind : Out Word → ℕ
@@ -46,7 +45,7 @@ module _ (even : Type 0) where
   steady_address_token : Steady even address_token address_token
   unfolding address_token
   steady_address_token =
-      let h : Token → Reader (Option (List ℕ)) = λ x ts. cond (same (terminal x) t.Address) (Ok (Some (map to_ascii_uppercase x.text), 0, drop 1 ts)) (Err (Syntax (length ts))) in
+      let h : Token → Reader (Option (List ℕ)) = λ x ts. cond (same (terminal x) t.Address) (Ok (Some (map to_ascii_uppercase x.text), 0, drop 1 ts)) (Err (syntax, ts)) in
       steady_first even address_token address_token h h refl refl (λ x ts. refl) (λ x ts. refl)
       (λ x. steady_choose even (same (terminal x) t.Address) _ _ _ _ (steady_skip even _ _ (steady_pure even (Some (map to_ascii_uppercase x.text)) 0)) (steady_fail even))
 
@@ -124,7 +123,7 @@ module _ (even : Type 0) where
   block_kind t.VarOutput ts = marked_block class.Output (drop 1 ts)
   block_kind t.VarTemp ts = block_of decl class.Temp mark.Plain (drop 1 ts)
   block_kind t.VarInOut ts = block_of bare_decl class.InOut mark.Plain (drop 1 ts)
-  block_kind _ ts = Err (Syntax (length ts))
+  block_kind _ ts = Err (syntax, ts)
 
   block_alike : (q : Terminal) (h : Token) (ts : List Token) → block_by q h ts ≡ block_kind q (h ∷ ts)
   block_alike t.Var h ts = refl
@@ -153,11 +152,11 @@ block_takes t.VarInput x ts r h = leaves ⊥ _ _ (steady_marked ⊥ class.Input)
 block_takes t.VarOutput x ts r h = leaves ⊥ _ _ (steady_marked ⊥ class.Output) ts r h
 block_takes t.VarTemp x ts r h = leaves ⊥ _ _ (steady_block_of ⊥ decl (steady_decl ⊥) decl_eats class.Temp mark.Plain) ts r h
 block_takes t.VarInOut x ts r h = leaves ⊥ _ _ (steady_block_of ⊥ bare_decl (steady_bare_decl ⊥) bare_decl_eats class.InOut mark.Plain) ts r h
-block_takes _ x ts r h = absurd (never_both r (Syntax (length (x ∷ ts))) (sym h))
+block_takes _ x ts r h = absurd (never_both r (syntax, x ∷ ts) (sym h))
 
 pub block_eats : Eats block
 unfolding block
-block_eats [] r h = absurd (never_both r (Syntax 0) (sym h))
+block_eats [] r h = absurd (never_both r (syntax, []) (sym h))
 block_eats (x ∷ ts) r h = omega (arith, block_takes (terminal x) x ts r h)
 
 -- ---- units
@@ -184,7 +183,7 @@ module _ (even : Type 0) (b b' : ℕ) (le : b ≤ b') (tie : even → b ≡ b') 
   abbrev pou_kind : ℕ → Terminal → Reader PouText
   pou_kind a t.Program ts = pou_of a kind.Program ts
   pou_kind a t.FunctionBlock ts = pou_of a kind.FunctionBlock ts
-  pou_kind a _ ts = Err (Syntax (length ts))
+  pou_kind a _ ts = Err (syntax, ts)
 
   pou_alike : (a : ℕ) (q : Terminal) (h : Token) (ts : List Token) → pou_by a q h ts ≡ pou_kind a q (h ∷ ts)
   pou_alike a t.Program h ts = refl
@@ -210,17 +209,17 @@ pou_of_takes b k x ts r h =
 pou_takes : (b : ℕ) (q : Terminal) (x : Token) (ts : List Token) (r : Read PouText) → pou_by b q x ts ≡ Ok r → length r.2 ≤ length ts
 pou_takes b t.Program x ts r h = pou_of_takes b kind.Program x ts r h
 pou_takes b t.FunctionBlock x ts r h = pou_of_takes b kind.FunctionBlock x ts r h
-pou_takes b _ x ts r h = absurd (never_both r (Syntax (length (x ∷ ts))) (sym h))
+pou_takes b _ x ts r h = absurd (never_both r (syntax, x ∷ ts) (sym h))
 
 pub pou_eats : (a : ℕ) → Eats (pou a)
 unfolding pou
-pou_eats zero ts r h = absurd (never_both r (TooDeep (length ts)) (sym h))
-pou_eats (suc b) [] r h = absurd (never_both r (Syntax 0) (sym h))
+pou_eats zero ts r h = absurd (never_both r (too_deep, ts) (sym h))
+pou_eats (suc b) [] r h = absurd (never_both r (syntax, []) (sym h))
 pou_eats (suc b) (x ∷ ts) r h = omega (arith, pou_takes b (terminal x) x ts r h)
 
 pub steady_pou : (even : Type 0) (a a' : ℕ) → a ≤ a' → (even → a ≡ a') → Steady even (pou a) (pou a')
 unfolding pou
-steady_pou even zero zero le tie = steady_deep even (λ ts. Err (TooDeep (length ts))) (λ is ts. refl)
+steady_pou even zero zero le tie = steady_deep even (λ ts. Err (too_deep, ts)) (λ is ts. refl)
 steady_pou even zero (suc a') le tie = steady_deep even (pou (suc a')) (λ is ts. absurd (let h : 0 ≡ suc a' = tie is in omega arith))
 steady_pou even (suc a) zero le tie = absurd (omega arith)
 steady_pou even (suc a) (suc a') le tie = steady_pou_inside even a a' (omega arith) (λ is. (let h : suc a ≡ suc a' = tie is in omega arith))

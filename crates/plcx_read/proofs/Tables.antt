@@ -1,7 +1,7 @@
 -- Tables of texts, and numbers of digits.
 use Rattle.std.proofs.Common.{◌≡◌, ℕ, zero, suc, ◌+◌, ◌*◌, ◌-◌, ◌≤◌, ◌<◌, min, Bool, true, false, cond, List, [], ◌∷◌, drop, length, map, refl, sym, ◌∙◌, arith, slice_index_or, get_or}
-use Rattle.plcx_st.specs.declared.terminal.Terminal.{Terminal}
-use Rattle.plcx_st.specs.Terminal.{found}
+use Rattle.plcx_lex.specs.declared.terminal.Terminal.{Terminal}
+use Rattle.plcx_lex.specs.Terminal.{found}
 use Rattle.std.specs.Char.{is_ascii_digit}
 use Rattle.plcx_types.specs.Numeral.{number_from, is_digit, digit_value}
 

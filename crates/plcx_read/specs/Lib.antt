@@ -1,4 +1,4 @@
+pub mod Fails
+-- what serves the proofs alone
 pub mod Reading
 pub mod Gives
-pub mod Fails
-pub mod Located

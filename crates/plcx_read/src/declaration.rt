@@ -2,22 +2,27 @@ ghost use Rattle.std.specs.Prelude.{◌≡◌};
 ghost use Rattle.plcx_read.specs.Reading as spec;
 ghost use Rattle.plcx_read.specs.Gives.{Gives};
 
-use crate::fault::ReadError;
 use crate::lexeme::Lexeme;
-use crate::token::{Part, behind, expect, literal_at, name_at, next, onward, same, sees};
+use crate::token::{
+    Part, behind, expect, listed, literal_at, name_at, next, onward, same, sees, unexpected,
+};
 use plcx_st::{Decl, Mark, Number, Terminal, TextBlock, TextClass};
 use sqlite_items::Items;
 use std::alloc::Global;
 
 #[tactic(auto, unfolding(crate::specs::Reading::address_token))]
-fn address_token<'t>(alloc: Global, tokens: &'t [Lexeme<'t>]) -> Part<'t, Option<Items<u8>>>
-    ensures { Gives (λ x. (x.0, 0, x.1.now)) result (spec.address_token tokens.now) }
+fn address_token<'t>(
+    alloc: Global,
+    end: u64,
+    tokens: &'t [Lexeme<'t>],
+) -> Part<'t, Option<Items<u8>>>
+    ensures { Gives end (λ x. (x.0, 0, x.1.now)) result (spec.address_token tokens.now) }
 {
     match tokens {
-        [] => Err(ReadError::Syntax(0)),
+        [] => Err(unexpected(end, tokens)),
         [x, rest @ ..] => {
             if !same(x.terminal(), Terminal::Address) {
-                return Err(ReadError::Syntax(tokens.len()));
+                return Err(unexpected(end, tokens));
             }
             Ok((Some(x.address(alloc)?), rest))
         }
@@ -25,36 +30,36 @@ fn address_token<'t>(alloc: Global, tokens: &'t [Lexeme<'t>]) -> Part<'t, Option
 }
 
 #[tactic(auto, unfolding(crate::specs::Reading::address_at))]
-fn address_at<'t>(alloc: Global, tokens: &'t [Lexeme<'t>]) -> Part<'t, Option<Items<u8>>>
-    ensures { Gives (λ x. (x.0, 0, x.1.now)) result (spec.address_at tokens.now) }
+fn address_at<'t>(alloc: Global, end: u64, tokens: &'t [Lexeme<'t>]) -> Part<'t, Option<Items<u8>>>
+    ensures { Gives end (λ x. (x.0, 0, x.1.now)) result (spec.address_at tokens.now) }
 {
     if !sees(Terminal::At, tokens) {
         return Ok((None, tokens));
     }
-    address_token(alloc, behind(tokens))
+    address_token(alloc, end, behind(tokens))
 }
 
 #[tactic(auto, unfolding(crate::specs::Reading::initial_at))]
-fn initial_at<'t>(tokens: &'t [Lexeme<'t>]) -> Part<'t, Option<Number>>
-    ensures { Gives (λ x. (x.0, 0, x.1.now)) result (spec.initial_at tokens.now) }
+fn initial_at<'t>(end: u64, tokens: &'t [Lexeme<'t>]) -> Part<'t, Option<Number>>
+    ensures { Gives end (λ x. (x.0, 0, x.1.now)) result (spec.initial_at tokens.now) }
 {
     if !sees(Terminal::Assign, tokens) {
         return Ok((None, tokens));
     }
-    let (number, rest) = literal_at(behind(tokens))?;
+    let (number, rest) = literal_at(end, behind(tokens))?;
     Ok((Some(number), rest))
 }
 
 #[tactic(auto, unfolding(crate::specs::Reading::decl))]
-fn decl<'t>(alloc: Global, tokens: &'t [Lexeme<'t>]) -> Part<'t, Decl>
-    ensures { Gives (λ x. (x.0, 0, x.1.now)) result (spec.decl tokens.now) }
+fn decl<'t>(alloc: Global, end: u64, tokens: &'t [Lexeme<'t>]) -> Part<'t, Decl>
+    ensures { Gives end (λ x. (x.0, 0, x.1.now)) result (spec.decl tokens.now) }
 {
-    let (name, rest) = name_at(alloc, tokens)?;
-    let (address, rest) = address_at(alloc, rest)?;
-    let rest = expect(Terminal::Colon, rest)?;
-    let (ty, rest) = name_at(alloc, rest)?;
-    let (initial, rest) = initial_at(rest)?;
-    let rest = expect(Terminal::Semicolon, rest)?;
+    let (name, rest) = name_at(alloc, end, tokens)?;
+    let (address, rest) = address_at(alloc, end, rest)?;
+    let rest = expect(end, Terminal::Colon, rest)?;
+    let (ty, rest) = name_at(alloc, end, rest)?;
+    let (initial, rest) = initial_at(end, rest)?;
+    let rest = expect(end, Terminal::Semicolon, rest)?;
     let decl = Decl {
         name,
         address,
@@ -65,13 +70,13 @@ fn decl<'t>(alloc: Global, tokens: &'t [Lexeme<'t>]) -> Part<'t, Decl>
 }
 
 #[tactic(auto, unfolding(crate::specs::Reading::bare_decl))]
-fn bare_decl<'t>(alloc: Global, tokens: &'t [Lexeme<'t>]) -> Part<'t, Decl>
-    ensures { Gives (λ x. (x.0, 0, x.1.now)) result (spec.bare_decl tokens.now) }
+fn bare_decl<'t>(alloc: Global, end: u64, tokens: &'t [Lexeme<'t>]) -> Part<'t, Decl>
+    ensures { Gives end (λ x. (x.0, 0, x.1.now)) result (spec.bare_decl tokens.now) }
 {
-    let (name, rest) = name_at(alloc, tokens)?;
-    let rest = expect(Terminal::Colon, rest)?;
-    let (ty, rest) = name_at(alloc, rest)?;
-    let rest = expect(Terminal::Semicolon, rest)?;
+    let (name, rest) = name_at(alloc, end, tokens)?;
+    let rest = expect(end, Terminal::Colon, rest)?;
+    let (ty, rest) = name_at(alloc, end, rest)?;
+    let rest = expect(end, Terminal::Semicolon, rest)?;
     let decl = Decl {
         name,
         address: None,
@@ -88,37 +93,37 @@ fn begins_decl(terminal: Terminal) -> bool
 }
 
 #[tactic(auto, unfolding(crate::specs::Reading::several))]
-fn decls<'t>(alloc: Global, tokens: &'t [Lexeme<'t>]) -> Part<'t, Items<Decl>>
-    ensures { Gives (λ x. (x.0, 0, x.1.now)) result (spec.all_of spec.begins_decl spec.decl tokens.now) }
+fn decls<'t>(alloc: Global, end: u64, tokens: &'t [Lexeme<'t>]) -> Part<'t, Items<Decl>>
+    ensures { Gives end (λ x. (x.0, 0, x.1.now)) result (spec.all_of spec.begins_decl spec.decl tokens.now) }
 {
-    let mut found = Items::new(alloc);
+    let mut found = Vec::new(alloc);
     let mut rest = tokens;
     for _turn in 0..tokens.len() + 1 {
         if !begins_decl(next(rest)) {
-            return Ok((found, rest));
+            return Ok((listed(found), rest));
         }
-        let (x, after) = decl(alloc, rest)?;
+        let (x, after) = decl(alloc, end, rest)?;
         found.push(x)?;
         rest = onward(after);
     }
-    Err(ReadError::Syntax(rest.len()))
+    Err(unexpected(end, rest))
 }
 
 #[tactic(auto, unfolding(crate::specs::Reading::several))]
-fn bare_decls<'t>(alloc: Global, tokens: &'t [Lexeme<'t>]) -> Part<'t, Items<Decl>>
-    ensures { Gives (λ x. (x.0, 0, x.1.now)) result (spec.all_of spec.begins_decl spec.bare_decl tokens.now) }
+fn bare_decls<'t>(alloc: Global, end: u64, tokens: &'t [Lexeme<'t>]) -> Part<'t, Items<Decl>>
+    ensures { Gives end (λ x. (x.0, 0, x.1.now)) result (spec.all_of spec.begins_decl spec.bare_decl tokens.now) }
 {
-    let mut found = Items::new(alloc);
+    let mut found = Vec::new(alloc);
     let mut rest = tokens;
     for _turn in 0..tokens.len() + 1 {
         if !begins_decl(next(rest)) {
-            return Ok((found, rest));
+            return Ok((listed(found), rest));
         }
-        let (x, after) = bare_decl(alloc, rest)?;
+        let (x, after) = bare_decl(alloc, end, rest)?;
         found.push(x)?;
         rest = onward(after);
     }
-    Err(ReadError::Syntax(rest.len()))
+    Err(unexpected(end, rest))
 }
 
 fn mark_at<'t>(tokens: &'t [Lexeme<'t>]) -> (Mark, &'t [Lexeme<'t>])
@@ -135,23 +140,24 @@ fn mark_at<'t>(tokens: &'t [Lexeme<'t>]) -> (Mark, &'t [Lexeme<'t>])
 #[tactic(auto, unfolding(crate::specs::Reading::block_of))]
 fn block_of<'t>(
     alloc: Global,
+    end: u64,
     class: TextClass,
     mark: Mark,
     tokens: &'t [Lexeme<'t>],
 ) -> Part<'t, TextBlock>
-    ensures { Gives (λ x. (x.0, 0, x.1.now)) result (spec.block_of spec.decl class mark tokens.now) }
+    ensures { Gives end (λ x. (x.0, 0, x.1.now)) result (spec.block_of spec.decl class mark tokens.now) }
 {
-    let (decls, rest) = decls(alloc, tokens)?;
-    let rest = expect(Terminal::EndVar, rest)?;
+    let (decls, rest) = decls(alloc, end, tokens)?;
+    let rest = expect(end, Terminal::EndVar, rest)?;
     Ok((TextBlock { class, mark, decls }, rest))
 }
 
 #[tactic(auto, unfolding(crate::specs::Reading::block_of))]
-fn bare_block<'t>(alloc: Global, tokens: &'t [Lexeme<'t>]) -> Part<'t, TextBlock>
-    ensures { Gives (λ x. (x.0, 0, x.1.now)) result (spec.block_of spec.bare_decl TextClass.InOut Mark.Plain tokens.now) }
+fn bare_block<'t>(alloc: Global, end: u64, tokens: &'t [Lexeme<'t>]) -> Part<'t, TextBlock>
+    ensures { Gives end (λ x. (x.0, 0, x.1.now)) result (spec.block_of spec.bare_decl TextClass.InOut Mark.Plain tokens.now) }
 {
-    let (decls, rest) = bare_decls(alloc, tokens)?;
-    let rest = expect(Terminal::EndVar, rest)?;
+    let (decls, rest) = bare_decls(alloc, end, tokens)?;
+    let rest = expect(end, Terminal::EndVar, rest)?;
     let block = TextBlock {
         class: TextClass::InOut,
         mark: Mark::Plain,
@@ -162,28 +168,29 @@ fn bare_block<'t>(alloc: Global, tokens: &'t [Lexeme<'t>]) -> Part<'t, TextBlock
 
 fn marked_block<'t>(
     alloc: Global,
+    end: u64,
     class: TextClass,
     tokens: &'t [Lexeme<'t>],
 ) -> Part<'t, TextBlock>
-    ensures { Gives (λ x. (x.0, 0, x.1.now)) result (spec.marked_block class tokens.now) }
+    ensures { Gives end (λ x. (x.0, 0, x.1.now)) result (spec.marked_block class tokens.now) }
 {
     let (mark, rest) = mark_at(tokens);
-    block_of(alloc, class, mark, rest)
+    block_of(alloc, end, class, mark, rest)
 }
 
 #[tactic(auto, unfolding(crate::specs::Reading::block))]
-fn block<'t>(alloc: Global, tokens: &'t [Lexeme<'t>]) -> Part<'t, TextBlock>
-    ensures { Gives (λ x. (x.0, 0, x.1.now)) result (spec.block tokens.now) }
+fn block<'t>(alloc: Global, end: u64, tokens: &'t [Lexeme<'t>]) -> Part<'t, TextBlock>
+    ensures { Gives end (λ x. (x.0, 0, x.1.now)) result (spec.block tokens.now) }
 {
     match tokens {
-        [] => Err(ReadError::Syntax(0)),
+        [] => Err(unexpected(end, tokens)),
         [x, rest @ ..] => match x.terminal() {
-            Terminal::Var => marked_block(alloc, TextClass::Var, rest),
-            Terminal::VarInput => marked_block(alloc, TextClass::Input, rest),
-            Terminal::VarOutput => marked_block(alloc, TextClass::Output, rest),
-            Terminal::VarTemp => block_of(alloc, TextClass::Temp, Mark::Plain, rest),
-            Terminal::VarInOut => bare_block(alloc, rest),
-            _ => Err(ReadError::Syntax(tokens.len())),
+            Terminal::Var => marked_block(alloc, end, TextClass::Var, rest),
+            Terminal::VarInput => marked_block(alloc, end, TextClass::Input, rest),
+            Terminal::VarOutput => marked_block(alloc, end, TextClass::Output, rest),
+            Terminal::VarTemp => block_of(alloc, end, TextClass::Temp, Mark::Plain, rest),
+            Terminal::VarInOut => bare_block(alloc, end, rest),
+            _ => Err(unexpected(end, tokens)),
         },
     }
 }
@@ -203,18 +210,18 @@ fn begins_block(terminal: Terminal) -> bool
 
 /// Blocks of declarations.
 #[tactic(auto, unfolding(crate::specs::Reading::several))]
-pub fn blocks<'t>(alloc: Global, tokens: &'t [Lexeme<'t>]) -> Part<'t, Items<TextBlock>>
-    ensures { Gives (λ x. (x.0, 0, x.1.now)) result (spec.all_of spec.begins_block spec.block tokens.now) }
+pub fn blocks<'t>(alloc: Global, end: u64, tokens: &'t [Lexeme<'t>]) -> Part<'t, Items<TextBlock>>
+    ensures { Gives end (λ x. (x.0, 0, x.1.now)) result (spec.all_of spec.begins_block spec.block tokens.now) }
 {
-    let mut found = Items::new(alloc);
+    let mut found = Vec::new(alloc);
     let mut rest = tokens;
     for _turn in 0..tokens.len() + 1 {
         if !begins_block(next(rest)) {
-            return Ok((found, rest));
+            return Ok((listed(found), rest));
         }
-        let (x, after) = block(alloc, rest)?;
+        let (x, after) = block(alloc, end, rest)?;
         found.push(x)?;
         rest = onward(after);
     }
-    Err(ReadError::Syntax(rest.len()))
+    Err(unexpected(end, rest))
 }

@@ -3,11 +3,12 @@ ghost use Rattle.plcx_st.specs.Grammar.{operator, level};
 ghost use Rattle.plcx_read.specs.Reading as spec;
 ghost use Rattle.plcx_read.specs.Gives.{Gives};
 
-use crate::fault::ReadError;
 use crate::lexeme::Lexeme;
 use crate::token::{
-    Read, behind, expect, literal_at, name_at, next, onward, room, room_told, sees,
+    Read, behind, expect, listed, literal_at, name_at, next, onward, room, sees, too_deep,
+    unexpected,
 };
+use plcx_lex::TextError;
 use plcx_st::{Expr, Op, Terminal};
 use sqlite_items::{Boxed, Items};
 use std::alloc::{AllocError, Global};
@@ -70,66 +71,86 @@ fn binary(alloc: Global, op: Op, left: Expr, right: Expr) -> Result<Expr, AllocE
 
 #[cycle(expr)]
 #[tactic(auto, unfolding(crate::specs::Reading::parted))]
-fn arguments<'t>(alloc: Global, allowance: usize, tokens: &'t [Lexeme<'t>]) -> Read<'t, Items<Expr>>
+fn arguments<'t>(
+    alloc: Global,
+    end: u64,
+    allowance: usize,
+    tokens: &'t [Lexeme<'t>],
+) -> Read<'t, Items<Expr>>
     requires { allowance < 1000 }
-    ensures gives { Gives (λ x. (x.0, x.1, x.2.now)) result (spec.list_of (spec.expr allowance 0) tokens.now) }
+    ensures gives { Gives end (λ x. (x.0, x.1, x.2.now)) result (spec.list_of (spec.expr allowance 0) tokens.now) }
     ensures within { IfOk result (λ x. x.1 ≤ allowance) }
 {
-    let mut found = Items::new(alloc);
+    let mut found = Vec::new(alloc);
     let mut depth: usize = 0;
     let mut rest = tokens;
     for _turn in 0..tokens.len() + 1 {
-        let (x, at, after) = expr(alloc, allowance, 0, rest)?;
+        let (x, at, after) = expr(alloc, end, allowance, 0, rest)?;
         found.push(x)?;
         depth = depth.max(at);
         if sees(Terminal::Comma, after) {
             rest = behind(after);
         } else {
-            let after = expect(Terminal::Close, after)?;
-            return Ok((found, depth, after));
+            let after = expect(end, Terminal::Close, after)?;
+            return Ok((listed(found), depth, after));
         }
     }
-    Err(ReadError::Syntax(rest.len()))
+    Err(unexpected(end, rest))
 }
 
 #[cycle(expr)]
-#[tactic(auto, unfolding(crate::specs::Reading::call))]
+#[tactic(auto, unfolding(crate::specs::Reading::call, crate::specs::Reading::room_told))]
 fn call<'t>(
     alloc: Global,
+    end: u64,
     allowance: usize,
     name: &Lexeme<'t>,
     tokens: &'t [Lexeme<'t>],
 ) -> Read<'t, Expr>
     requires { allowance < 1000 }
-    ensures gives { Gives (λ x. (x.0, x.1, x.2.now)) result (spec.call allowance (spec.expr allowance) name.now tokens.now) }
+    ensures gives { Gives end (λ x. (x.0, x.1, x.2.now)) result (spec.call allowance (spec.expr allowance) name.now tokens.now) }
     ensures within { IfOk result (λ x. x.1 ≤ allowance + 1) }
 {
-    room_told(allowance, tokens)?;
-    let (args, depth, rest) = arguments(alloc, allowance, behind(tokens))?;
+    if allowance == 0 {
+        return Err(TextError::TooDeep {
+            at: name.span().start,
+        });
+    }
+    let (args, depth, rest) = arguments(alloc, end, allowance, behind(tokens))?;
     let function = name.word(alloc)?;
     Ok((Expr::Call { function, args }, depth + 1, rest))
 }
 
 #[tactic(auto, unfolding(crate::specs::Reading::member))]
-fn member<'t>(alloc: Global, name: &Lexeme<'t>, tokens: &'t [Lexeme<'t>]) -> Read<'t, Expr>
-    ensures gives { Gives (λ x. (x.0, x.1, x.2.now)) result (spec.member name.now tokens.now) }
+fn member<'t>(
+    alloc: Global,
+    end: u64,
+    name: &Lexeme<'t>,
+    tokens: &'t [Lexeme<'t>],
+) -> Read<'t, Expr>
+    ensures gives { Gives end (λ x. (x.0, x.1, x.2.now)) result (spec.member name.now tokens.now) }
     ensures within { IfOk result (λ x. x.1 ≤ 1) }
 {
-    let (output, rest) = name_at(alloc, behind(tokens))?;
+    let (output, rest) = name_at(alloc, end, behind(tokens))?;
     let instance = name.word(alloc)?;
     Ok((Expr::Member { instance, output }, 1, rest))
 }
 
 #[cycle(expr)]
 #[tactic(auto, unfolding(crate::specs::Reading::bracketed))]
-fn bracketed<'t>(alloc: Global, allowance: usize, tokens: &'t [Lexeme<'t>]) -> Read<'t, Expr>
+fn bracketed<'t>(
+    alloc: Global,
+    end: u64,
+    allowance: usize,
+    tokens: &'t [Lexeme<'t>],
+) -> Read<'t, Expr>
     requires { allowance < 1000 }
-    ensures gives { Gives (λ x. (x.0, x.1, x.2.now)) result (spec.bracketed allowance (spec.expr allowance) tokens.now) }
+    ensures gives { Gives end (λ x. (x.0, x.1, x.2.now)) result (spec.bracketed allowance (spec.expr allowance) tokens.now) }
     ensures within { IfOk result (λ x. x.1 ≤ allowance + 1) }
 {
-    room(allowance, tokens)?;
-    let (inner, depth, rest) = expr(alloc, allowance, 0, behind(tokens))?;
-    let rest = expect(Terminal::Close, rest)?;
+    room(end, allowance, tokens)?;
+    let (inner, depth, rest) = expr(alloc, end, allowance, 0, behind(tokens))?;
+    let rest = expect(end, Terminal::Close, rest)?;
     Ok((inner, depth + 1, rest))
 }
 
@@ -137,16 +158,17 @@ fn bracketed<'t>(alloc: Global, allowance: usize, tokens: &'t [Lexeme<'t>]) -> R
 #[tactic(auto, unfolding(crate::specs::Reading::negated))]
 fn negated<'t>(
     alloc: Global,
+    end: u64,
     allowance: usize,
     word: &Lexeme<'t>,
     tokens: &'t [Lexeme<'t>],
 ) -> Read<'t, Expr>
     requires { allowance < 1000 }
-    ensures gives { Gives (λ x. (x.0, x.1, x.2.now)) result (spec.negated allowance (spec.expr allowance) word.now tokens.now) }
+    ensures gives { Gives end (λ x. (x.0, x.1, x.2.now)) result (spec.negated allowance (spec.expr allowance) word.now tokens.now) }
     ensures within { IfOk result (λ x. x.1 ≤ allowance + 1) }
 {
-    room(allowance, tokens)?;
-    let (inner, depth, rest) = expr(alloc, allowance, 7, behind(tokens))?;
+    room(end, allowance, tokens)?;
+    let (inner, depth, rest) = expr(alloc, end, allowance, 7, behind(tokens))?;
     let node = Expr::Not {
         operand: Boxed::new(alloc, inner)?,
         span: word.span(),
@@ -157,45 +179,51 @@ fn negated<'t>(
 #[cycle(expr)]
 fn named<'t>(
     alloc: Global,
+    end: u64,
     allowance: usize,
     name: &Lexeme<'t>,
     tokens: &'t [Lexeme<'t>],
 ) -> Read<'t, Expr>
     requires { allowance < 1000 }
-    ensures gives { Gives (λ x. (x.0, x.1, x.2.now)) result (spec.named_by allowance (spec.expr allowance) (spec.next tokens.now) name.now tokens.now) }
+    ensures gives { Gives end (λ x. (x.0, x.1, x.2.now)) result (spec.named_by allowance (spec.expr allowance) (spec.next tokens.now) name.now tokens.now) }
     ensures within { IfOk result (λ x. x.1 ≤ allowance + 1) }
 {
     match next(tokens) {
-        Terminal::Open => call(alloc, allowance, name, tokens),
-        Terminal::Dot => member(alloc, name, tokens),
+        Terminal::Open => call(alloc, end, allowance, name, tokens),
+        Terminal::Dot => member(alloc, end, name, tokens),
         _ => Ok((Expr::Name(name.word(alloc)?), 1, tokens)),
     }
 }
 
 #[tactic(auto, unfolding(crate::specs::Reading::valued))]
-fn valued<'t>(tokens: &'t [Lexeme<'t>]) -> Read<'t, Expr>
-    ensures gives { Gives (λ x. (x.0, x.1, x.2.now)) result (spec.valued tokens.now) }
+fn valued<'t>(end: u64, tokens: &'t [Lexeme<'t>]) -> Read<'t, Expr>
+    ensures gives { Gives end (λ x. (x.0, x.1, x.2.now)) result (spec.valued tokens.now) }
     ensures within { IfOk result (λ x. x.1 ≤ 1) }
 {
-    let (number, rest) = literal_at(tokens)?;
+    let (number, rest) = literal_at(end, tokens)?;
     Ok((Expr::Number(number), 1, rest))
 }
 
 #[cycle(expr)]
 #[tactic(auto, unfolding(crate::specs::Reading::operand))]
-fn operand<'t>(alloc: Global, allowance: usize, tokens: &'t [Lexeme<'t>]) -> Read<'t, Expr>
+fn operand<'t>(
+    alloc: Global,
+    end: u64,
+    allowance: usize,
+    tokens: &'t [Lexeme<'t>],
+) -> Read<'t, Expr>
     requires { allowance < 1000 }
-    ensures gives { Gives (λ x. (x.0, x.1, x.2.now)) result (spec.operand allowance (spec.expr allowance) tokens.now) }
+    ensures gives { Gives end (λ x. (x.0, x.1, x.2.now)) result (spec.operand allowance (spec.expr allowance) tokens.now) }
     ensures within { IfOk result (λ x. x.1 ≤ allowance + 1) }
 {
     match tokens {
-        [] => Err(ReadError::Syntax(0)),
+        [] => Err(unexpected(end, tokens)),
         [x, rest @ ..] => match x.terminal() {
-            Terminal::Name => named(alloc, allowance, x, rest),
-            Terminal::Number => valued(tokens),
-            Terminal::Open => bracketed(alloc, allowance, tokens),
-            Terminal::Not => negated(alloc, allowance, x, tokens),
-            _ => Err(ReadError::Syntax(tokens.len())),
+            Terminal::Name => named(alloc, end, allowance, x, rest),
+            Terminal::Number => valued(end, tokens),
+            Terminal::Open => bracketed(alloc, end, allowance, tokens),
+            Terminal::Not => negated(alloc, end, allowance, x, tokens),
+            _ => Err(unexpected(end, tokens)),
         },
     }
 }
@@ -204,6 +232,7 @@ fn operand<'t>(alloc: Global, allowance: usize, tokens: &'t [Lexeme<'t>]) -> Rea
 #[tactic(auto, unfolding(crate::specs::Reading::climb))]
 fn climb<'t>(
     alloc: Global,
+    end: u64,
     allowance: usize,
     least: u8,
     first: Expr,
@@ -212,7 +241,7 @@ fn climb<'t>(
 ) -> Read<'t, Expr>
     requires limit { allowance < 1000 }
     requires first { height ≤ allowance + 1 }
-    ensures gives { Gives (λ x. (x.0, x.1, x.2.now)) result (spec.climb allowance (spec.expr allowance) (allowance + 1) least first height tokens.now) }
+    ensures gives { Gives end (λ x. (x.0, x.1, x.2.now)) result (spec.climb allowance (spec.expr allowance) (allowance + 1) least first height tokens.now) }
     ensures within { IfOk result (λ x. x.1 ≤ allowance + 1) }
 {
     let mut left = first;
@@ -223,15 +252,15 @@ fn climb<'t>(
             return Ok((left, depth, rest));
         };
         if allowance < depth {
-            return Err(ReadError::TooDeep(rest.len()));
+            return Err(too_deep(end, rest));
         }
-        let (right, at, after) = expr(alloc, allowance, level(op) + 1, behind(rest))?;
+        let (right, at, after) = expr(alloc, end, allowance, level(op) + 1, behind(rest))?;
         left = binary(alloc, op, left, right)?;
         depth = depth.max(at) + 1;
         rest = onward(after);
     }
     if next_operator(least, rest).is_some() {
-        return Err(ReadError::TooDeep(rest.len()));
+        return Err(too_deep(end, rest));
     }
     Ok((left, depth, rest))
 }
@@ -241,17 +270,18 @@ fn climb<'t>(
 #[tactic(auto, unfolding(crate::specs::Reading::expr, crate::specs::Reading::level_of))]
 pub fn expr<'t>(
     alloc: Global,
+    end: u64,
     allowance: usize,
     least: u8,
     tokens: &'t [Lexeme<'t>],
 ) -> Read<'t, Expr>
     requires { allowance ≤ 1000 }
-    ensures gives { Gives (λ x. (x.0, x.1, x.2.now)) result (spec.expr allowance least tokens.now) }
+    ensures gives { Gives end (λ x. (x.0, x.1, x.2.now)) result (spec.expr allowance least tokens.now) }
     ensures within { IfOk result (λ x. x.1 ≤ allowance) }
 {
     if allowance == 0 {
-        return Err(ReadError::TooDeep(tokens.len()));
+        return Err(too_deep(end, tokens));
     }
-    let (first, height, rest) = operand(alloc, allowance - 1, tokens)?;
-    climb(alloc, allowance - 1, least, first, height, rest)
+    let (first, height, rest) = operand(alloc, end, allowance - 1, tokens)?;
+    climb(alloc, end, allowance - 1, least, first, height, rest)
 }

@@ -3,7 +3,6 @@
 
 mod declaration;
 mod expression;
-mod fault;
 mod lexeme;
 mod place;
 mod printed;
@@ -16,12 +15,3 @@ pub use place::one_place;
 pub use plcx_lex::{TextError, TextToken, TokenKind, tokens};
 pub use printed::read_printed;
 pub use text::{one_unit, read};
-
-#[cfg(test)]
-mod machine;
-#[cfg(test)]
-mod place_tests;
-#[cfg(test)]
-mod printed_tests;
-#[cfg(test)]
-mod tests;

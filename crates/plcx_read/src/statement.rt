@@ -3,46 +3,58 @@ ghost use Rattle.plcx_read.specs.Reading as spec;
 ghost use Rattle.plcx_read.specs.Gives.{Gives};
 
 use crate::expression::expr;
-use crate::fault::ReadError;
 use crate::lexeme::Lexeme;
-use crate::token::{Read, behind, expect, next, onward, room, room_told, same, sees};
+use crate::token::{
+    Read, behind, expect, listed, next, onward, room, same, sees, too_deep, unexpected,
+};
+use plcx_lex::TextError;
 use plcx_st::{Arg, Arm, Expr, Stmt, Terminal};
 use sqlite_items::Items;
 use std::alloc::Global;
 
-#[tactic(auto, unfolding(crate::specs::Reading::assigned))]
+#[tactic(auto, unfolding(crate::specs::Reading::assigned, crate::specs::Reading::room_told))]
 fn assigned<'t>(
     alloc: Global,
+    end: u64,
     allowance: usize,
     name: &Lexeme<'t>,
     tokens: &'t [Lexeme<'t>],
 ) -> Read<'t, Stmt>
     requires { allowance < 1000 }
-    ensures gives { Gives (λ x. (x.0, x.1, x.2.now)) result (spec.assigned allowance name.now tokens.now) }
+    ensures gives { Gives end (λ x. (x.0, x.1, x.2.now)) result (spec.assigned allowance name.now tokens.now) }
     ensures within { IfOk result (λ x. x.1 ≤ allowance + 1) }
 {
-    room_told(allowance, tokens)?;
-    let (value, depth, rest) = expr(alloc, allowance, 0, behind(tokens))?;
-    let rest = expect(Terminal::Semicolon, rest)?;
+    if allowance == 0 {
+        return Err(TextError::TooDeep {
+            at: name.span().start,
+        });
+    }
+    let (value, depth, rest) = expr(alloc, end, allowance, 0, behind(tokens))?;
+    let rest = expect(end, Terminal::Semicolon, rest)?;
     let target = name.word(alloc)?;
     Ok((Stmt::Assign { target, value }, depth + 1, rest))
 }
 
 #[tactic(auto, unfolding(crate::specs::Reading::argument))]
-fn argument<'t>(alloc: Global, allowance: usize, tokens: &'t [Lexeme<'t>]) -> Read<'t, Arg>
+fn argument<'t>(
+    alloc: Global,
+    end: u64,
+    allowance: usize,
+    tokens: &'t [Lexeme<'t>],
+) -> Read<'t, Arg>
     requires { allowance < 1000 }
-    ensures gives { Gives (λ x. (x.0, x.1, x.2.now)) result (spec.argument allowance tokens.now) }
+    ensures gives { Gives end (λ x. (x.0, x.1, x.2.now)) result (spec.argument allowance tokens.now) }
     ensures within { IfOk result (λ x. x.1 ≤ allowance) }
 {
     match tokens {
-        [] => Err(ReadError::Syntax(0)),
+        [] => Err(unexpected(end, tokens)),
         [x, rest @ ..] => {
             if !same(x.terminal(), Terminal::Name) {
-                return Err(ReadError::Syntax(tokens.len()));
+                return Err(unexpected(end, tokens));
             }
-            room(allowance, tokens)?;
-            let rest = expect(Terminal::Assign, rest)?;
-            let (value, depth, rest) = expr(alloc, allowance, 0, rest)?;
+            room(end, allowance, tokens)?;
+            let rest = expect(end, Terminal::Assign, rest)?;
+            let (value, depth, rest) = expr(alloc, end, allowance, 0, rest)?;
             let formal = x.word(alloc)?;
             Ok((Arg { formal, value }, depth, rest))
         }
@@ -50,47 +62,53 @@ fn argument<'t>(alloc: Global, allowance: usize, tokens: &'t [Lexeme<'t>]) -> Re
 }
 
 #[tactic(auto, unfolding(crate::specs::Reading::parted))]
-fn arguments<'t>(alloc: Global, allowance: usize, tokens: &'t [Lexeme<'t>]) -> Read<'t, Items<Arg>>
+fn arguments<'t>(
+    alloc: Global,
+    end: u64,
+    allowance: usize,
+    tokens: &'t [Lexeme<'t>],
+) -> Read<'t, Items<Arg>>
     requires { allowance < 1000 }
-    ensures gives { Gives (λ x. (x.0, x.1, x.2.now)) result (spec.list_of (spec.argument allowance) tokens.now) }
+    ensures gives { Gives end (λ x. (x.0, x.1, x.2.now)) result (spec.list_of (spec.argument allowance) tokens.now) }
     ensures within { IfOk result (λ x. x.1 ≤ allowance) }
 {
-    let mut found = Items::new(alloc);
+    let mut found = Vec::new(alloc);
     let mut depth: usize = 0;
     let mut rest = tokens;
     for _turn in 0..tokens.len() + 1 {
-        let (x, at, after) = argument(alloc, allowance, rest)?;
+        let (x, at, after) = argument(alloc, end, allowance, rest)?;
         found.push(x)?;
         depth = depth.max(at);
         if sees(Terminal::Comma, after) {
             rest = behind(after);
         } else {
-            let after = expect(Terminal::Close, after)?;
-            return Ok((found, depth, after));
+            let after = expect(end, Terminal::Close, after)?;
+            return Ok((listed(found), depth, after));
         }
     }
-    Err(ReadError::Syntax(rest.len()))
+    Err(unexpected(end, rest))
 }
 
 #[tactic(auto, unfolding(crate::specs::Reading::called_bare, crate::specs::Reading::called_with))]
 fn called<'t>(
     alloc: Global,
+    end: u64,
     allowance: usize,
     name: &Lexeme<'t>,
     tokens: &'t [Lexeme<'t>],
 ) -> Read<'t, Stmt>
     requires { allowance < 1000 }
-    ensures gives { Gives (λ x. (x.0, x.1, x.2.now)) result (spec.called allowance name.now tokens.now) }
+    ensures gives { Gives end (λ x. (x.0, x.1, x.2.now)) result (spec.called allowance name.now tokens.now) }
     ensures within { IfOk result (λ x. x.1 ≤ allowance + 1) }
 {
     if sees(Terminal::Close, tokens) {
-        let rest = expect(Terminal::Semicolon, behind(tokens))?;
+        let rest = expect(end, Terminal::Semicolon, behind(tokens))?;
         let instance = name.word(alloc)?;
         let args = Items::new(alloc);
         Ok((Stmt::Call { instance, args }, 1, rest))
     } else {
-        let (args, depth, rest) = arguments(alloc, allowance, tokens)?;
-        let rest = expect(Terminal::Semicolon, rest)?;
+        let (args, depth, rest) = arguments(alloc, end, allowance, tokens)?;
+        let rest = expect(end, Terminal::Semicolon, rest)?;
         let instance = name.word(alloc)?;
         Ok((Stmt::Call { instance, args }, depth + 1, rest))
     }
@@ -98,87 +116,103 @@ fn called<'t>(
 
 fn named<'t>(
     alloc: Global,
+    end: u64,
     allowance: usize,
     name: &Lexeme<'t>,
     tokens: &'t [Lexeme<'t>],
 ) -> Read<'t, Stmt>
     requires { allowance < 1000 }
-    ensures gives { Gives (λ x. (x.0, x.1, x.2.now)) result (spec.named_stmt_by allowance (spec.next tokens.now) name.now tokens.now) }
+    ensures gives { Gives end (λ x. (x.0, x.1, x.2.now)) result (spec.named_stmt_by allowance (spec.next tokens.now) name.now tokens.now) }
     ensures within { IfOk result (λ x. x.1 ≤ allowance + 1) }
 {
     match next(tokens) {
-        Terminal::Assign => assigned(alloc, allowance, name, tokens),
-        Terminal::Open => called(alloc, allowance, name, behind(tokens)),
-        _ => Err(ReadError::Syntax(tokens.len())),
+        Terminal::Assign => assigned(alloc, end, allowance, name, tokens),
+        Terminal::Open => called(alloc, end, allowance, name, behind(tokens)),
+        _ => Err(unexpected(end, tokens)),
     }
 }
 
 #[tactic(auto, unfolding(crate::specs::Reading::head))]
 fn head<'t>(
     alloc: Global,
+    end: u64,
     allowance: usize,
     terminal: Terminal,
     tokens: &'t [Lexeme<'t>],
 ) -> Read<'t, Expr>
     requires { allowance < 1000 }
-    ensures gives { Gives (λ x. (x.0, x.1, x.2.now)) result (spec.head allowance terminal tokens.now) }
+    ensures gives { Gives end (λ x. (x.0, x.1, x.2.now)) result (spec.head allowance terminal tokens.now) }
     ensures within { IfOk result (λ x. x.1 ≤ allowance) }
 {
-    room(allowance, tokens)?;
-    let (x, depth, rest) = expr(alloc, allowance, 0, behind(tokens))?;
-    let rest = expect(terminal, rest)?;
+    room(end, allowance, tokens)?;
+    let (x, depth, rest) = expr(alloc, end, allowance, 0, behind(tokens))?;
+    let rest = expect(end, terminal, rest)?;
     Ok((x, depth, rest))
 }
 
 #[tactic(auto, unfolding(crate::specs::Reading::closed))]
-fn closed<'t>(terminal: Terminal, tokens: &'t [Lexeme<'t>]) -> Result<&'t [Lexeme<'t>], ReadError>
-    ensures { Gives (λ x. x.now) result (spec.closed terminal tokens.now) }
+fn closed<'t>(
+    end: u64,
+    terminal: Terminal,
+    tokens: &'t [Lexeme<'t>],
+) -> Result<&'t [Lexeme<'t>], TextError>
+    ensures { Gives end (λ x. x.now) result (spec.closed terminal tokens.now) }
 {
-    let rest = expect(terminal, tokens)?;
-    expect(Terminal::Semicolon, rest)
+    let rest = expect(end, terminal, tokens)?;
+    expect(end, Terminal::Semicolon, rest)
 }
 
 #[cycle(statement)]
 #[tactic(auto, unfolding(crate::specs::Reading::conditional))]
-fn conditional<'t>(alloc: Global, allowance: usize, tokens: &'t [Lexeme<'t>]) -> Read<'t, Stmt>
+fn conditional<'t>(
+    alloc: Global,
+    end: u64,
+    allowance: usize,
+    tokens: &'t [Lexeme<'t>],
+) -> Read<'t, Stmt>
     requires { allowance < 1000 }
-    ensures gives { Gives (λ x. (x.0, x.1, x.2.now)) result (spec.conditional allowance (spec.statements allowance) tokens.now) }
+    ensures gives { Gives end (λ x. (x.0, x.1, x.2.now)) result (spec.conditional allowance (spec.statements allowance) tokens.now) }
     ensures within { IfOk result (λ x. x.1 ≤ allowance + 1) }
 {
-    let (cond, at, rest) = head(alloc, allowance, Terminal::Then, tokens)?;
-    let (body, depth, rest) = statements(alloc, allowance, rest)?;
-    let rest = closed(Terminal::EndIf, rest)?;
+    let (cond, at, rest) = head(alloc, end, allowance, Terminal::Then, tokens)?;
+    let (body, depth, rest) = statements(alloc, end, allowance, rest)?;
+    let rest = closed(end, Terminal::EndIf, rest)?;
     Ok((Stmt::If { cond, body }, at.max(depth) + 1, rest))
 }
 
 #[cycle(statement)]
 #[tactic(auto, unfolding(crate::specs::Reading::repeated))]
-fn repeated<'t>(alloc: Global, allowance: usize, tokens: &'t [Lexeme<'t>]) -> Read<'t, Stmt>
+fn repeated<'t>(
+    alloc: Global,
+    end: u64,
+    allowance: usize,
+    tokens: &'t [Lexeme<'t>],
+) -> Read<'t, Stmt>
     requires { allowance < 1000 }
-    ensures gives { Gives (λ x. (x.0, x.1, x.2.now)) result (spec.repeated allowance (spec.statements allowance) tokens.now) }
+    ensures gives { Gives end (λ x. (x.0, x.1, x.2.now)) result (spec.repeated allowance (spec.statements allowance) tokens.now) }
     ensures within { IfOk result (λ x. x.1 ≤ allowance + 1) }
 {
-    let (cond, at, rest) = head(alloc, allowance, Terminal::Do, tokens)?;
-    let (body, depth, rest) = statements(alloc, allowance, rest)?;
-    let rest = closed(Terminal::EndWhile, rest)?;
+    let (cond, at, rest) = head(alloc, end, allowance, Terminal::Do, tokens)?;
+    let (body, depth, rest) = statements(alloc, end, allowance, rest)?;
+    let rest = closed(end, Terminal::EndWhile, rest)?;
     Ok((Stmt::While { cond, body }, at.max(depth) + 1, rest))
 }
 
 #[cycle(statement)]
 #[tactic(auto, unfolding(crate::specs::Reading::arm))]
-fn arm<'t>(alloc: Global, allowance: usize, tokens: &'t [Lexeme<'t>]) -> Read<'t, Arm>
+fn arm<'t>(alloc: Global, end: u64, allowance: usize, tokens: &'t [Lexeme<'t>]) -> Read<'t, Arm>
     requires { allowance < 1000 }
-    ensures gives { Gives (λ x. (x.0, x.1, x.2.now)) result (spec.arm (spec.statements allowance) tokens.now) }
+    ensures gives { Gives end (λ x. (x.0, x.1, x.2.now)) result (spec.arm (spec.statements allowance) tokens.now) }
     ensures within { IfOk result (λ x. x.1 ≤ allowance) }
 {
     match tokens {
-        [] => Err(ReadError::Syntax(0)),
+        [] => Err(unexpected(end, tokens)),
         [x, rest @ ..] => {
             if !same(x.terminal(), Terminal::Digits) {
-                return Err(ReadError::Syntax(tokens.len()));
+                return Err(unexpected(end, tokens));
             }
-            let rest = expect(Terminal::Colon, rest)?;
-            let (body, depth, rest) = statements(alloc, allowance, rest)?;
+            let rest = expect(end, Terminal::Colon, rest)?;
+            let (body, depth, rest) = statements(alloc, end, allowance, rest)?;
             let arm = Arm {
                 label: x.label(),
                 span: x.span(),
@@ -197,59 +231,90 @@ fn begins_arm(terminal: Terminal) -> bool
 
 #[cycle(statement)]
 #[tactic(auto, unfolding(crate::specs::Reading::several))]
-fn arms<'t>(alloc: Global, allowance: usize, tokens: &'t [Lexeme<'t>]) -> Read<'t, Items<Arm>>
+fn arms<'t>(
+    alloc: Global,
+    end: u64,
+    allowance: usize,
+    tokens: &'t [Lexeme<'t>],
+) -> Read<'t, Items<Arm>>
     requires { allowance < 1000 }
-    ensures gives { Gives (λ x. (x.0, x.1, x.2.now)) result (spec.all_of spec.is_digits (spec.arm (spec.statements allowance)) tokens.now) }
+    ensures gives { Gives end (λ x. (x.0, x.1, x.2.now)) result (spec.all_of spec.is_digits (spec.arm (spec.statements allowance)) tokens.now) }
     ensures within { IfOk result (λ x. x.1 ≤ allowance) }
 {
-    let mut found = Items::new(alloc);
+    let mut found = Vec::new(alloc);
     let mut depth: usize = 0;
     let mut rest = tokens;
     for _turn in 0..tokens.len() + 1 {
         if !begins_arm(next(rest)) {
-            return Ok((found, depth, rest));
+            return Ok((listed(found), depth, rest));
         }
-        let (x, at, after) = arm(alloc, allowance, rest)?;
+        let (x, at, after) = arm(alloc, end, allowance, rest)?;
         found.push(x)?;
         depth = depth.max(at);
         rest = onward(after);
     }
-    Err(ReadError::Syntax(rest.len()))
+    Err(unexpected(end, rest))
 }
 
 #[cycle(statement)]
 #[tactic(auto, unfolding(crate::specs::Reading::selected))]
-fn selected<'t>(alloc: Global, allowance: usize, tokens: &'t [Lexeme<'t>]) -> Read<'t, Stmt>
+fn selected<'t>(
+    alloc: Global,
+    end: u64,
+    allowance: usize,
+    tokens: &'t [Lexeme<'t>],
+) -> Read<'t, Stmt>
     requires { allowance < 1000 }
-    ensures gives { Gives (λ x. (x.0, x.1, x.2.now)) result (spec.selected allowance (spec.statements allowance) tokens.now) }
+    ensures gives { Gives end (λ x. (x.0, x.1, x.2.now)) result (spec.selected allowance (spec.statements allowance) tokens.now) }
     ensures within { IfOk result (λ x. x.1 ≤ allowance + 1) }
 {
-    let (value, at, rest) = head(alloc, allowance, Terminal::Of, tokens)?;
-    let (arms, depth, rest) = arms(alloc, allowance, rest)?;
-    let rest = closed(Terminal::EndCase, rest)?;
+    let (value, at, rest) = head(alloc, end, allowance, Terminal::Of, tokens)?;
+    let (arms, depth, rest) = arms(alloc, end, allowance, rest)?;
+    let rest = closed(end, Terminal::EndCase, rest)?;
     Ok((Stmt::Case { value, arms }, at.max(depth) + 1, rest))
 }
 
+/// By its first token. The parts inside have the allowance.
 #[cycle(statement)]
-#[tactic(auto, unfolding(crate::specs::Reading::statement, crate::specs::Reading::statement_of))]
-fn statement<'t>(alloc: Global, allowance: usize, tokens: &'t [Lexeme<'t>]) -> Read<'t, Stmt>
+#[tactic(auto, unfolding(crate::specs::Reading::statement_of))]
+fn statement_of<'t>(
+    alloc: Global,
+    end: u64,
+    allowance: usize,
+    tokens: &'t [Lexeme<'t>],
+) -> Read<'t, Stmt>
+    requires { allowance < 1000 }
+    ensures gives { Gives end (λ x. (x.0, x.1, x.2.now)) result (spec.statement_of allowance (spec.statements allowance) tokens.now) }
+    ensures within { IfOk result (λ x. x.1 ≤ allowance + 1) }
+{
+    match tokens {
+        [] => Err(unexpected(end, tokens)),
+        [x, rest @ ..] => match x.terminal() {
+            Terminal::Name => named(alloc, end, allowance, x, rest),
+            Terminal::If => conditional(alloc, end, allowance, tokens),
+            Terminal::While => repeated(alloc, end, allowance, tokens),
+            Terminal::Case => selected(alloc, end, allowance, tokens),
+            _ => Err(unexpected(end, tokens)),
+        },
+    }
+}
+
+#[cycle(statement)]
+#[tactic(auto, unfolding(crate::specs::Reading::statement))]
+fn statement<'t>(
+    alloc: Global,
+    end: u64,
+    allowance: usize,
+    tokens: &'t [Lexeme<'t>],
+) -> Read<'t, Stmt>
     requires { allowance ≤ 1000 }
-    ensures gives { Gives (λ x. (x.0, x.1, x.2.now)) result (spec.statement allowance tokens.now) }
+    ensures gives { Gives end (λ x. (x.0, x.1, x.2.now)) result (spec.statement allowance tokens.now) }
     ensures within { IfOk result (λ x. x.1 ≤ allowance) }
 {
     if allowance == 0 {
-        return Err(ReadError::TooDeep(tokens.len()));
+        return Err(too_deep(end, tokens));
     }
-    match tokens {
-        [] => Err(ReadError::Syntax(0)),
-        [x, rest @ ..] => match x.terminal() {
-            Terminal::Name => named(alloc, allowance - 1, x, rest),
-            Terminal::If => conditional(alloc, allowance - 1, tokens),
-            Terminal::While => repeated(alloc, allowance - 1, tokens),
-            Terminal::Case => selected(alloc, allowance - 1, tokens),
-            _ => Err(ReadError::Syntax(tokens.len())),
-        },
-    }
+    statement_of(alloc, end, allowance - 1, tokens)
 }
 
 fn begins_stmt(terminal: Terminal) -> bool
@@ -266,24 +331,25 @@ fn begins_stmt(terminal: Terminal) -> bool
 #[tactic(auto, unfolding(crate::specs::Reading::several))]
 pub fn statements<'t>(
     alloc: Global,
+    end: u64,
     allowance: usize,
     tokens: &'t [Lexeme<'t>],
 ) -> Read<'t, Items<Stmt>>
     requires { allowance < 1000 }
-    ensures gives { Gives (λ x. (x.0, x.1, x.2.now)) result (spec.statements allowance tokens.now) }
+    ensures gives { Gives end (λ x. (x.0, x.1, x.2.now)) result (spec.statements allowance tokens.now) }
     ensures within { IfOk result (λ x. x.1 ≤ allowance) }
 {
-    let mut found = Items::new(alloc);
+    let mut found = Vec::new(alloc);
     let mut depth: usize = 0;
     let mut rest = tokens;
     for _turn in 0..tokens.len() + 1 {
         if !begins_stmt(next(rest)) {
-            return Ok((found, depth, rest));
+            return Ok((listed(found), depth, rest));
         }
-        let (x, at, after) = statement(alloc, allowance, rest)?;
+        let (x, at, after) = statement(alloc, end, allowance, rest)?;
         found.push(x)?;
         depth = depth.max(at);
         rest = onward(after);
     }
-    Err(ReadError::Syntax(rest.len()))
+    Err(unexpected(end, rest))
 }

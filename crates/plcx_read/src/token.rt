@@ -1,18 +1,20 @@
 ghost use Rattle.std.specs.Prelude.{◌≡◌, ℕ, drop, map};
 ghost use Rattle.plcx_st.specs.Grammar.{word, number};
 ghost use Rattle.plcx_read.specs.Reading as spec;
-ghost use Rattle.plcx_read.specs.Gives.{Gives};
+ghost use Rattle.plcx_st.specs.Place.{start_of};
+ghost use Rattle.plcx_read.specs.Gives.{Gives, located};
 
-use crate::fault::ReadError;
 use crate::lexeme::Lexeme;
+use plcx_lex::TextError;
 use plcx_st::{Number, Terminal, Word};
+use sqlite_items::Items;
 use std::alloc::Global;
 
-/// What a reader gives: a value, its depth, and the tokens after it.
-pub type Read<'t, T> = Result<(T, usize, &'t [Lexeme<'t>]), ReadError>;
+/// What a reader gives: a value, its depth, and the tokens after it. Readers take the length of the text, which is the place where tokens are missing.
+pub type Read<'t, T> = Result<(T, usize, &'t [Lexeme<'t>]), TextError>;
 
 /// What a reader of a part without depth gives: a value, and the tokens after it.
-pub type Part<'t, T> = Result<(T, &'t [Lexeme<'t>]), ReadError>;
+pub type Part<'t, T> = Result<(T, &'t [Lexeme<'t>]), TextError>;
 
 /// Whether both are the same terminal.
 #[tactic(auto, unfolding(crate::specs::Reading::same))]
@@ -42,6 +44,34 @@ pub fn sees(terminal: Terminal, tokens: &[Lexeme<'_>]) -> bool
     }
 }
 
+/// Where the first of the tokens begins, or the text ends.
+fn start_of(end: u64, tokens: &[Lexeme<'_>]) -> u64
+    ensures { result ≡ start_of tokens.now end }
+{
+    match tokens {
+        [] => end,
+        [x, ..] => x.span().start,
+    }
+}
+
+/// The next token does not go on, or there is none.
+pub fn unexpected(end: u64, tokens: &[Lexeme<'_>]) -> TextError
+    ensures { result ≡ located end spec.syntax tokens.now }
+{
+    TextError::Syntax {
+        at: start_of(end, tokens),
+    }
+}
+
+/// The next token would go on if the text could be deeper.
+pub fn too_deep(end: u64, tokens: &[Lexeme<'_>]) -> TextError
+    ensures { result ≡ located end spec.too_deep tokens.now }
+{
+    TextError::TooDeep {
+        at: start_of(end, tokens),
+    }
+}
+
 /// The tokens behind the first.
 pub fn behind<'t>(tokens: &'t [Lexeme<'t>]) -> &'t [Lexeme<'t>]
     ensures { result.now ≡ drop 1 tokens.now }
@@ -59,21 +89,30 @@ pub fn onward<'t>(tokens: &'t [Lexeme<'t>]) -> &'t [Lexeme<'t>]
     tokens
 }
 
+/// The list of what was found, with room for that alone.
+pub fn listed<T: Drop>(mut found: Vec<T>) -> Items<T>
+    ensures { result ≡ found.items }
+{
+    found.shrink_to_fit();
+    Items::from_vec(found)
+}
+
 /// The tokens behind the first, which is this terminal.
 #[tactic(auto, unfolding(crate::specs::Reading::expect))]
 pub fn expect<'t>(
+    end: u64,
     terminal: Terminal,
     tokens: &'t [Lexeme<'t>],
-) -> Result<&'t [Lexeme<'t>], ReadError>
-    ensures { Gives (λ x. x.now) result (spec.expect terminal tokens.now) }
+) -> Result<&'t [Lexeme<'t>], TextError>
+    ensures { Gives end (λ x. x.now) result (spec.expect terminal tokens.now) }
 {
     match tokens {
-        [] => Err(ReadError::Syntax(0)),
+        [] => Err(unexpected(end, tokens)),
         [x, rest @ ..] => {
             if same(x.terminal(), terminal) {
                 Ok(rest)
             } else {
-                Err(ReadError::Syntax(tokens.len()))
+                Err(unexpected(end, tokens))
             }
         }
     }
@@ -81,16 +120,16 @@ pub fn expect<'t>(
 
 /// A name, and the tokens behind it.
 #[tactic(auto, unfolding(crate::specs::Reading::name_at))]
-pub fn name_at<'t>(alloc: Global, tokens: &'t [Lexeme<'t>]) -> Part<'t, Word>
-    ensures { Gives (λ x. (x.0, 0, x.1.now)) result (spec.name_at tokens.now) }
+pub fn name_at<'t>(alloc: Global, end: u64, tokens: &'t [Lexeme<'t>]) -> Part<'t, Word>
+    ensures { Gives end (λ x. (x.0, 0, x.1.now)) result (spec.name_at tokens.now) }
 {
     match tokens {
-        [] => Err(ReadError::Syntax(0)),
+        [] => Err(unexpected(end, tokens)),
         [x, rest @ ..] => {
             if same(x.terminal(), Terminal::Name) {
                 Ok((x.word(alloc)?, rest))
             } else {
-                Err(ReadError::Syntax(tokens.len()))
+                Err(unexpected(end, tokens))
             }
         }
     }
@@ -98,15 +137,15 @@ pub fn name_at<'t>(alloc: Global, tokens: &'t [Lexeme<'t>]) -> Part<'t, Word>
 
 /// A literal, and the tokens behind it.
 #[tactic(auto, unfolding(crate::specs::Reading::literal_at))]
-pub fn literal_at<'t>(tokens: &'t [Lexeme<'t>]) -> Part<'t, Number>
-    ensures { Gives (λ x. (x.0, 0, x.1.now)) result (spec.literal_at tokens.now) }
+pub fn literal_at<'t>(end: u64, tokens: &'t [Lexeme<'t>]) -> Part<'t, Number>
+    ensures { Gives end (λ x. (x.0, 0, x.1.now)) result (spec.literal_at tokens.now) }
 {
     match tokens {
-        [] => Err(ReadError::Syntax(0)),
+        [] => Err(unexpected(end, tokens)),
         [x, rest @ ..] => {
             if same(x.terminal(), Terminal::Number) {
                 match x.literal() {
-                    None => Err(ReadError::Syntax(tokens.len())),
+                    None => Err(unexpected(end, tokens)),
                     Some((ty, n)) => Ok((
                         Number {
                             ty,
@@ -117,7 +156,7 @@ pub fn literal_at<'t>(tokens: &'t [Lexeme<'t>]) -> Part<'t, Number>
                     )),
                 }
             } else {
-                Err(ReadError::Syntax(tokens.len()))
+                Err(unexpected(end, tokens))
             }
         }
     }
@@ -125,22 +164,11 @@ pub fn literal_at<'t>(tokens: &'t [Lexeme<'t>]) -> Part<'t, Number>
 
 /// There is room for what is inside, or the first token does not go on.
 #[tactic(auto, unfolding(crate::specs::Reading::room))]
-pub fn room(allowance: usize, tokens: &[Lexeme<'_>]) -> Result<(), ReadError>
-    ensures { Gives (λ x. x) result (spec.room allowance tokens.now) }
+pub fn room(end: u64, allowance: usize, tokens: &[Lexeme<'_>]) -> Result<(), TextError>
+    ensures { Gives end (λ x. x) result (spec.room allowance tokens.now) }
 {
     if allowance == 0 {
-        return Err(ReadError::TooDeep(tokens.len()));
-    }
-    Ok(())
-}
-
-/// The same at the sign behind a name.
-#[tactic(auto, unfolding(crate::specs::Reading::room_told))]
-pub fn room_told(allowance: usize, tokens: &[Lexeme<'_>]) -> Result<(), ReadError>
-    ensures { Gives (λ x. x) result (spec.room_told allowance tokens.now) }
-{
-    if allowance == 0 {
-        return Err(ReadError::DeepName(tokens.len()));
+        return Err(too_deep(end, tokens));
     }
     Ok(())
 }

@@ -4,10 +4,10 @@ ghost use Rattle.plcx_read.specs.Reading as spec;
 ghost use Rattle.plcx_read.specs.Gives.{Gives};
 
 use crate::declaration::blocks;
-use crate::fault::ReadError;
 use crate::lexeme::Lexeme;
 use crate::statement::statements;
-use crate::token::{Part, Read, behind, expect, name_at, next, onward};
+use crate::token::{Read, behind, expect, listed, name_at, next, onward, too_deep, unexpected};
+use plcx_lex::TextError;
 use plcx_st::{PouText, Terminal, TextKind};
 use sqlite_items::Items;
 use std::alloc::Global;
@@ -24,18 +24,19 @@ fn ending(kind: TextKind) -> Terminal
 #[tactic(auto, unfolding(crate::specs::Reading::pou_of))]
 fn pou_of<'t>(
     alloc: Global,
+    end: u64,
     allowance: usize,
     kind: TextKind,
     tokens: &'t [Lexeme<'t>],
 ) -> Read<'t, PouText>
     requires { allowance < 1000 }
-    ensures gives { Gives (λ x. (x.0, x.1, x.2.now)) result (spec.pou_of allowance kind tokens.now) }
+    ensures gives { Gives end (λ x. (x.0, x.1, x.2.now)) result (spec.pou_of allowance kind tokens.now) }
     ensures within { IfOk result (λ x. x.1 ≤ allowance + 1) }
 {
-    let (name, rest) = name_at(alloc, behind(tokens))?;
-    let (blocks, rest) = blocks(alloc, rest)?;
-    let (body, depth, rest) = statements(alloc, allowance, rest)?;
-    let rest = expect(ending(kind), rest)?;
+    let (name, rest) = name_at(alloc, end, behind(tokens))?;
+    let (blocks, rest) = blocks(alloc, end, rest)?;
+    let (body, depth, rest) = statements(alloc, end, allowance, rest)?;
+    let rest = expect(end, ending(kind), rest)?;
     let pou = PouText {
         kind,
         name,
@@ -46,22 +47,22 @@ fn pou_of<'t>(
 }
 
 #[tactic(auto, unfolding(crate::specs::Reading::pou))]
-fn pou<'t>(alloc: Global, allowance: usize, tokens: &'t [Lexeme<'t>]) -> Read<'t, PouText>
+fn pou<'t>(alloc: Global, end: u64, allowance: usize, tokens: &'t [Lexeme<'t>]) -> Read<'t, PouText>
     requires { allowance ≤ 1000 }
-    ensures gives { Gives (λ x. (x.0, x.1, x.2.now)) result (spec.pou allowance tokens.now) }
+    ensures gives { Gives end (λ x. (x.0, x.1, x.2.now)) result (spec.pou allowance tokens.now) }
     ensures within { IfOk result (λ x. x.1 ≤ allowance) }
 {
     if allowance == 0 {
-        return Err(ReadError::TooDeep(tokens.len()));
+        return Err(too_deep(end, tokens));
     }
     match tokens {
-        [] => Err(ReadError::Syntax(0)),
+        [] => Err(unexpected(end, tokens)),
         [x, ..] => match x.terminal() {
-            Terminal::Program => pou_of(alloc, allowance - 1, TextKind::Program, tokens),
+            Terminal::Program => pou_of(alloc, end, allowance - 1, TextKind::Program, tokens),
             Terminal::FunctionBlock => {
-                pou_of(alloc, allowance - 1, TextKind::FunctionBlock, tokens)
+                pou_of(alloc, end, allowance - 1, TextKind::FunctionBlock, tokens)
             }
-            _ => Err(ReadError::Syntax(tokens.len())),
+            _ => Err(unexpected(end, tokens)),
         },
     }
 }
@@ -75,41 +76,43 @@ fn begins_pou(terminal: Terminal) -> bool
 #[tactic(auto, unfolding(crate::specs::Reading::several))]
 fn several<'t>(
     alloc: Global,
+    end: u64,
     allowance: usize,
     tokens: &'t [Lexeme<'t>],
 ) -> Read<'t, Items<PouText>>
     requires { allowance ≤ 1000 }
-    ensures gives { Gives (λ x. (x.0, x.1, x.2.now)) result (spec.all_of spec.begins_pou (spec.pou allowance) tokens.now) }
+    ensures gives { Gives end (λ x. (x.0, x.1, x.2.now)) result (spec.all_of spec.begins_pou (spec.pou allowance) tokens.now) }
     ensures within { IfOk result (λ x. x.1 ≤ allowance) }
 {
-    let mut found = Items::new(alloc);
+    let mut found = Vec::new(alloc);
     let mut depth: usize = 0;
     let mut rest = tokens;
     for _turn in 0..tokens.len() + 1 {
         if !begins_pou(next(rest)) {
-            return Ok((found, depth, rest));
+            return Ok((listed(found), depth, rest));
         }
-        let (x, at, after) = pou(alloc, allowance, rest)?;
+        let (x, at, after) = pou(alloc, end, allowance, rest)?;
         found.push(x)?;
         depth = depth.max(at);
         rest = onward(after);
     }
-    Err(ReadError::Syntax(rest.len()))
+    Err(unexpected(end, rest))
 }
 
 /// The POUs that all of the tokens are, each of at most that depth.
 #[tactic(auto, unfolding(crate::specs::Reading::pous))]
 pub fn pous<'t>(
     alloc: Global,
+    end: u64,
     allowance: usize,
     tokens: &'t [Lexeme<'t>],
-) -> Result<Items<PouText>, ReadError>
+) -> Result<Items<PouText>, TextError>
     requires { allowance ≤ 1000 }
-    ensures { Gives (λ x. x) result (spec.pous allowance tokens.now) }
+    ensures { Gives end (λ x. x) result (spec.pous allowance tokens.now) }
 {
-    let (pous, _, rest) = several(alloc, allowance, tokens)?;
+    let (pous, _, rest) = several(alloc, end, allowance, tokens)?;
     if rest.len() != 0 {
-        return Err(ReadError::Syntax(rest.len()));
+        return Err(unexpected(end, rest));
     }
     Ok(pous)
 }

@@ -1,9 +1,19 @@
-//! Tests of the whole way, from words and files in memory to what both sinks got.
+//! Tests over several crates, and of what needs no private name: values, functions, blocks, texts, and the whole way, from words and files in memory to what both sinks got.
 #![tactic(auto)]
 
 #[cfg(test)]
+mod blocks;
+#[cfg(test)]
+mod coordinates;
+#[cfg(test)]
 mod files;
 #[cfg(test)]
+mod functions;
+#[cfg(test)]
 mod tests;
+#[cfg(test)]
+mod texts;
+#[cfg(test)]
+mod values;
 #[cfg(test)]
 mod xml;

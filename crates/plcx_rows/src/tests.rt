@@ -10,18 +10,18 @@ use std::test::Fail;
 const USAGE: &str =
     "plcx: usage: plcx ACTION FILE [EVENTS] [--program NAME] [--turns N] [--retain FILE]\n";
 
-const NOT_BUILT: &str = "plcx: not built\n";
+pub const NOT_BUILT: &str = "plcx: not built\n";
 
 /// What a call left behind.
 #[derive(Drop)]
-struct Left {
+pub struct Left {
     status: Status,
     out: Vec<u8>,
     err: Vec<u8>,
 }
 
 impl Left {
-    fn is(&self, status: Status, out: &str, err: &str) -> bool {
+    pub fn is(&self, status: Status, out: &str, err: &str) -> bool {
         self.status == status
             && self.out.as_slice() == out.as_bytes()
             && self.err.as_slice() == err.as_bytes()
@@ -30,20 +30,25 @@ impl Left {
 
 /// The numbers of the calls that fail.
 #[derive(Clone, Copy)]
-struct Failing<'a> {
+pub struct Failing<'a> {
     desk: &'a [u64],
     out: &'a [u64],
     err: &'a [u64],
 }
 
-const NONE: Failing = Failing {
+pub const NONE: Failing = Failing {
     desk: &[],
     out: &[],
     err: &[],
 };
 
 /// The words over a desk with one file, `main.xml`, and sinks that take 64 bytes a call.
-fn run_words(alloc: Global, words: &[&str], file: &str, failing: Failing) -> Result<Left, Fail> {
+pub fn run_words(
+    alloc: Global,
+    words: &[&str],
+    file: &str,
+    failing: Failing,
+) -> Result<Left, Fail> {
     let mut said = Words::new(alloc);
     for word in words {
         said.push(word)?;

@@ -5,9 +5,9 @@ use Rattle.std.specs.Char.{to_ascii_lowercase, to_ascii_uppercase}
 use Rattle.std.specs.List.{list_all}
 use Rattle.std.proofs.lemmas.Bool.{and_parts, and_from, eqb-true}
 use Rattle.std.proofs.lemmas.Bool.Decides.{nat_tests}
-use Rattle.plcx_types.specs.Name.{folded}
+use Rattle.plcx_types.specs.Name.{in_lower_case}
 use Rattle.plcx_types.specs.Numeral.{is_digit}
-use Rattle.plcx_lex.specs.Lexis as lexis
+use Rattle.plcx_types.specs.Address as address
 use Rattle.plcx_meaning.specs.Address.{ArePlaces, last, more, IsAddress, plain, sized, AddressFits}
 use Rattle.plcx_st.specs.InRange.{AddressInRange}
 use Rattle.plcx_st.proofs.Inside.{all_append, all_weaken, member_test}
@@ -37,11 +37,11 @@ places_pass p digit point (last {digits = digits} d) = all_weaken (is_digit 10) 
 places_pass p digit point (more {digits = digits} {rest = rest} d h) =
     all_append p digits (codes "." ++ rest) (all_weaken (is_digit 10) p digits digit d.all) (and_from (p 46) (list_all p rest) point (places_pass p digit point h))
 
-places_are : {most : ℕ} {text : List ℕ} → ArePlaces most text → lexis.ArePlaces most text
-places_are (last d) = lexis.last d
-places_are (more d h) = lexis.more d (places_are h)
+places_are : {most : ℕ} {text : List ℕ} → ArePlaces most text → address.ArePlaces most text
+places_are (last d) = address.last d
+places_are (more d h) = address.more d (places_are h)
 
-places_lower : {most : ℕ} {text : List ℕ} → ArePlaces most text → folded text ≡ text
+places_lower : {most : ℕ} {text : List ℕ} → ArePlaces most text → in_lower_case text ≡ text
 places_lower {text = text} h = kept to_ascii_lowercase text (places_pass is_lower digit_lower refl h)
 
 address_upper : {text : List ℕ} → IsAddress text → map to_ascii_uppercase text ≡ text
@@ -52,13 +52,13 @@ address_upper (sized {area = area} {size = size} {places = places} a s h) =
     (and_from (is_upper area) (is_upper size && list_all is_upper places) (member_test is_upper (codes "IQM") area refl a)
     (and_from (is_upper size) (list_all is_upper places) (member_test is_upper (codes "XBWDL") size refl s) (places_pass is_upper digit_upper refl h)))
 
-address_lower : {text : List ℕ} → IsAddress text → lexis.IsAddress (folded text)
+address_lower : {text : List ℕ} → IsAddress text → address.IsAddressForm (in_lower_case text)
 address_lower (plain {area = area} {places = places} a h) =
-    subst (λ rest. lexis.IsAddress (codes "%" ++ to_ascii_lowercase area ∷ rest)) (sym (places_lower h))
-    (lexis.plain (member_test (λ b. lexis.is_one_of (codes "iqm") (to_ascii_lowercase b)) (codes "IQM") area refl a) (places_are h))
+    subst (λ rest. address.IsAddressForm (codes "%" ++ to_ascii_lowercase area ∷ rest)) (sym (places_lower h))
+    (address.plain (member_test (λ b. address.is_one_of (codes "iqm") (to_ascii_lowercase b)) (codes "IQM") area refl a) (places_are h))
 address_lower (sized {area = area} {size = size} {places = places} a s h) =
-    subst (λ rest. lexis.IsAddress (codes "%" ++ to_ascii_lowercase area ∷ to_ascii_lowercase size ∷ rest)) (sym (places_lower h))
-    (lexis.sized (member_test (λ b. lexis.is_one_of (codes "iqm") (to_ascii_lowercase b)) (codes "IQM") area refl a) (member_test (λ b. lexis.is_one_of (codes "xbwdl") (to_ascii_lowercase b)) (codes "XBWDL") size refl s) (places_are h))
+    subst (λ rest. address.IsAddressForm (codes "%" ++ to_ascii_lowercase area ∷ to_ascii_lowercase size ∷ rest)) (sym (places_lower h))
+    (address.sized (member_test (λ b. address.is_one_of (codes "iqm") (to_ascii_lowercase b)) (codes "IQM") area refl a) (member_test (λ b. address.is_one_of (codes "xbwdl") (to_ascii_lowercase b)) (codes "XBWDL") size refl s) (places_are h))
 
 pub address_range : (address : Option (List ℕ)) → AddressFits address → AddressInRange address
 address_range None h = tt

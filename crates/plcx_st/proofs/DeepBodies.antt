@@ -12,7 +12,7 @@ use Rattle.plcx_meaning.specs.Tree.{Operator, Or, Xor, And, Equal, NotEqual, Les
 use Rattle.plcx_meaning.specs.Tree as tree
 use Rattle.plcx_meaning.specs.Layout.{Variable}
 use Rattle.plcx_meaning.specs.Functions.{can_apply}
-use Rattle.plcx_meaning.specs.Diagram.{Source, Rail, Literal, Wire, Back, Link, Operand, Own, Output, Storing, Stored, Inverted, Set, Reset, Contacting, Open, Closed, RisingContact, FallingContact, Coiling, By, RisingCoil, FallingCoil, Enable, Input, InOut, Output', Kind, Still, In, Out, Contact, Coil, Pass, Label, Jump, Return, Function, Call, Port, eno_negated, Element, has_jump, Pou, Project}
+use Rattle.plcx_meaning.specs.Diagram.{Source, Rail, Literal, Wire, Back, Link, Operand, Own, Output, Storing, Stored, Inverted, Set, Reset, Contacting, Open, Closed, RisingContact, FallingContact, Coiling, By, RisingCoil, FallingCoil, Enable, InputPin, InOutPin, OutputPin, ElementKind, Still, In, Out, Contact, Coil, Pass, Label, Jump, Return, Function, Call, Port, eno_negated, DiagramElement, has_jump, Pou, Project}
 use Rattle.plcx_meaning.specs.Evaluate.{leads_to}
 use Rattle.plcx_meaning.specs.Templates.{number, truth, dint, not_if, both, wire, wire_name, memory, memory_name, counter_name, source_text, or_text, link_text, operand_text, store_text, contact_text, contact_edge, coil_text, function_text, eno_text, enabled, turned_if, out_default, input_text, in_out_text, output_text, kind_text, feed_text, element_text, elements_text, choice_text, choices_text, turn_text, arms_text, straight_text, jumping_text, body_text}
 use Rattle.plcx_meaning.specs.Fits.{Standing, LinkFits, EnableFits, InputFits, KindFits, fixed_by, ElementsFit}
@@ -231,16 +231,16 @@ module _ (at : Standing) where
   links_low : (links : List Link) → Each (LinkFits at) links → Each (Low 67) (map link_text links)
   links_low links h = each_map (Low 67) link_text links (each_weaker (LinkFits at) _ links (λ l fit. link_low l fit.few) h)
 
-  inputs_low : (within : List Variable) (ins : List Input) → Each (InputFits at within) ins → Each (λ (a : Argument). Low 67 a.value) (map input_text ins)
+  inputs_low : (within : List Variable) (ins : List InputPin) → Each (InputFits at within) ins → Each (λ (a : Argument). Low 67 a.value) (map input_text ins)
   inputs_low within ins h = each_map _ input_text ins (each_weaker (InputFits at within) _ ins (λ i fit. link_low i.link fit.1.few) h)
 
-  in_outs_low : (ins : List InOut) → Each (λ (a : Argument). Low 67 a.value) (map in_out_text ins)
+  in_outs_low : (ins : List InOutPin) → Each (λ (a : Argument). Low 67 a.value) (map in_out_text ins)
   in_outs_low ins = each_map _ in_out_text ins (each_from _ ins (λ i there. weaker 1 67 (Name i.variable) (omega arith) (name_low i.variable)))
 
-  outputs_low : (id : ℕ) (instance : List ℕ) (outs : List Output') → Each Flat (map (output_text id instance) outs)
+  outputs_low : (id : ℕ) (instance : List ℕ) (outs : List OutputPin) → Each Flat (map (output_text id instance) outs)
   outputs_low id instance outs = each_map Flat (output_text id instance) outs (each_from _ outs (λ o there. assigned 2 (omega arith) (wire_name id o.name) (not_if o.negated (Member instance o.name)) (not_if_low o.negated 1 (Member instance o.name) (member_low instance o.name))))
 
-  kind_low : (k : Kind) (id : ℕ) → KindFits at k → Each Flat (kind_text k id)
+  kind_low : (k : ElementKind) (id : ℕ) → KindFits at k → Each Flat (kind_text k id)
   kind_low Still id h = tt
   kind_low (In t negated operand) id h = (assigned 2 (omega arith) (wire_name id []) (not_if negated (operand_text operand)) (not_if_low negated 1 (operand_text operand) (operand_low operand)), tt)
   kind_low (Out how x link) id h = (store_low how x (link_text link) (link_low link h.2.few), tt)
@@ -272,7 +272,7 @@ module _ (at : Standing) where
       )
 
 module _ (project : Project) (p : Pou) where
-  elements_low : (done : List (ℕ × Port)) (es : List Element) → ElementsFit project p done es → Each Flat (elements_text es)
+  elements_low : (done : List (ℕ × Port)) (es : List DiagramElement) → ElementsFit project p done es → Each Flat (elements_text es)
   elements_low done [] h = tt
   elements_low done (e ∷ es) h =
       each_append Flat (element_text e) (elements_text es)
@@ -281,25 +281,25 @@ module _ (project : Project) (p : Pou) where
       (each_map Flat (feed_text e.id) e.fed (each_from _ e.fed (λ o there. assigned 67 (omega arith) _ (wire e.id o.pin) (wire_low e.id o.pin)))))
       (elements_low (fixed_by e ++ done) es h.3)
 
-  straight_low : (networks : List (List Element)) → Each (ElementsFit project p []) networks → Each Flat (straight_text networks)
+  straight_low : (networks : List (List DiagramElement)) → Each (ElementsFit project p []) networks → Each Flat (straight_text networks)
   straight_low [] h = tt
   straight_low (network ∷ networks) h = each_append Flat (elements_text network) (straight_text networks) (elements_low [] network h.0) (straight_low networks h.1)
 
-  choice_low : (networks : List (List Element)) (e : Element) → Each Flat (choice_text networks e)
+  choice_low : (networks : List (List DiagramElement)) (e : DiagramElement) → Each Flat (choice_text networks e)
   choice_low networks e = by (leads_to networks e.kind)
     where
       by : (o : Option ℕ) → Each Flat (elim o [ Some n ↦ If (wire e.id []) (statements (Assign counter_name (dint n) ∷ [])) ∷ [] | None ↦ [] ])
       by (Some n) = (if_low 141 (wire e.id []) (Assign counter_name (dint n)) (weaker 67 141 _ (omega arith) (wire_low e.id [])) (set_low 1 (omega arith) counter_name (dint n) (number_low _)), tt)
       by None = tt
 
-  choices_low : (networks : List (List Element)) (es : List Element) → Each Flat (choices_text networks es)
+  choices_low : (networks : List (List DiagramElement)) (es : List DiagramElement) → Each Flat (choices_text networks es)
   choices_low networks [] = tt
   choices_low networks (e ∷ es) = each_append Flat (choices_text networks es) (choice_text networks e) (choices_low networks es) (choice_low networks e)
 
   counted : (n : ℕ) → Flat (Assign counter_name (dint n))
   counted n = assigned 1 (omega arith) counter_name (dint n) (number_low _)
 
-  arms_low : (networks : List (List Element)) (i : ℕ) (rest : List (List Element)) → Each (ElementsFit project p []) rest → arms_depth (arms (arms_text networks i rest)) ≤ 142
+  arms_low : (networks : List (List DiagramElement)) (i : ℕ) (rest : List (List DiagramElement)) → Each (ElementsFit project p []) rest → arms_depth (arms (arms_text networks i rest)) ≤ 142
   unfolding statement_depth
   arms_low networks i [] h = omega arith
   arms_low networks i (network ∷ rest) h =
@@ -307,7 +307,7 @@ module _ (project : Project) (p : Pou) where
       (all_low 142 (turn_text networks (i + 1) network) (each_append Flat (elements_text network) _ (elements_low [] network h.0) (counted (i + 1), choices_low networks network)))
       (arms_low networks (i + 1) rest h.1)
 
-  case_low : (networks : List (List Element)) → Each (ElementsFit project p []) networks → Shallow 143 (Case (Name counter_name) (arms (arms_text networks 0 networks)))
+  case_low : (networks : List (List DiagramElement)) → Each (ElementsFit project p []) networks → Shallow 143 (Case (Name counter_name) (arms (arms_text networks 0 networks)))
   unfolding statement_depth
   case_low networks h =
       let bound = max_low (expression_depth 0 (Name counter_name)) (arms_depth (arms (arms_text networks 0 networks))) 142 (weaker 1 142 (Name counter_name) (omega arith) (name_low counter_name) 0) (arms_low networks 0 networks h) in
@@ -320,7 +320,7 @@ module _ (project : Project) (p : Pou) where
   limit_low : (n : ℕ) → Low 143 (Binary Less (Name counter_name) (dint n))
   limit_low n = weaker 3 143 _ (omega arith) (binary_low Less (Name counter_name) (dint n) 1 (name_low counter_name 4) (number_low _ 5))
 
-  pub body_low : (networks : List (List Element)) → Each (ElementsFit project p []) networks → statements_depth (statements (body_text networks)) ≤ 144
+  pub body_low : (networks : List (List DiagramElement)) → Each (ElementsFit project p []) networks → statements_depth (statements (body_text networks)) ≤ 144
   body_low networks h = by (has_jump networks)
     where
       raised : (s : Statement) → Flat s → Shallow 144 s

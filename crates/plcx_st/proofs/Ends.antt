@@ -7,7 +7,8 @@ use Rattle.std.proofs.Math.Seq.{take-append_seam, take-append-add}
 use Rattle.plcx_types.specs.Name.{is_next_byte}
 use Rattle.plcx_lex.specs.declared.token.TokenKind.{TokenKind}
 use Rattle.plcx_lex.specs.declared.token.TokenKind.TheVariants as kind
-use Rattle.plcx_lex.specs.Lexis.{IsToken, Longest, NoComment, is_one_of}
+use Rattle.plcx_types.specs.Address.{is_one_of}
+use Rattle.plcx_lex.specs.Lexis.{IsToken, Longest, NoComment}
 use Rattle.plcx_st.proofs.Inside.{member_test, head, opposite, is_stop, stops, stop_inside, point_inside, lone, alone, token_some}
 
 longest_rest : (k : TokenKind) (text : List ℕ) (b : ℕ) (rest : List ℕ) (m : ℕ) (other : TokenKind) → length text < m → ((more : List ℕ) → IsToken other (text ++ b ∷ more) → ⊥) → IsToken other (take m (text ++ b ∷ rest)) → ⊥

@@ -15,7 +15,7 @@ use Rattle.plcx_meaning.specs.Base.{Each}
 use Rattle.plcx_meaning.specs.Tree.{PouKind, Program, FunctionBlock, Class, Local, Input, Output, InOut, Temp, Mark, Plain, Constant, Retain, Declaration, Block, Expression, Argument, Statement, Assign, Call, If, While, Case, Statements, no_statement, statement, Arms, no_arm, arm, PouText, statements}
 use Rattle.plcx_st.specs.Print.{Shape, shape, word, sign, name, in_brackets, expression_shapes, arguments_shapes, Line, line, ended, opening, closing, statement_lines, statements_lines, arms_lines, address_shapes, initial_shapes, declaration_line, class_word, mark_shapes, block_lines, pou_word, pou_end, pou_lines, unit_lines}
 use Rattle.plcx_st.specs.InRange.{IsWord, ExpressionInRange, ArgumentInRange, StatementInRange, StatementsInRange, ArmsInRange, AddressInRange, DeclarationInRange, BlockInRange, PouInRange}
-use Rattle.plcx_st.specs.Fitting.{ExpressionFits, ArgumentFits, StatementFits, StatementsFit, ArmsFit, InitialFits, DeclarationFits, BlockFits, PouFits}
+use Rattle.plcx_st.specs.Fitting.{ExpressionFits, ArgumentFits, StatementFits, StatementsFit, ArmsFit, InitialNumberFits, DeclarationFits, BlockFits, PouTextFits}
 use Rattle.plcx_st.proofs.Inside.{head, same_bytes, address_head}
 use Rattle.plcx_st.proofs.Literals.{number_token, number_head, label_token, label_head}
 use Rattle.plcx_st.proofs.Lexed.{Fine, plain, FineLines}
@@ -99,7 +99,7 @@ address_tail None ss good t = t
 address_tail (Some text) ss good t = keyword (codes "AT") (shape kind.Address text ∷ ss) (refl, refl) refl
     (record { fine = plain good.0 (address_first text 40 good.0 refl) t.point t.fine; point = address_point text good.0 })
 
-initial_tail : (v : Option Value) (ss : List Shape) → InitialFits v → Tail ss → Tail (initial_shapes v ++ ss)
+initial_tail : (v : Option Value) (ss : List Shape) → InitialNumberFits v → Tail ss → Tail (initial_shapes v ++ ss)
 initial_tail None ss fits t = t
 initial_tail (Some v) ss fits t = tail_assign _ (behind_start _ (starts_word kind.Number (literal.printed v) ss (number_token v fits) (number_head v fits) t))
 
@@ -140,12 +140,12 @@ pou_end_fine : (k : PouKind) → FineLines (line 0 (word (pou_end k) ∷ []) ∷
 pou_end_fine Program = word_line (codes "END_PROGRAM") (refl, refl) refl
 pou_end_fine FunctionBlock = word_line (codes "END_FUNCTION_BLOCK") (refl, refl) refl
 
-pou_fine : (p : PouText) → PouInRange p → PouFits p → FineLines (pou_lines p)
+pou_fine : (p : PouText) → PouInRange p → PouTextFits p → FineLines (pou_lines p)
 pou_fine p good fits =
     let body : List Line = statements_lines 2 (statements p.body) in
     let end : List Line = line 0 (word (pou_end p.kind) ∷ []) ∷ [] in
     (pou_heading_fine p.kind p.name good.name, fine_append (flat_map block_lines p.blocks) (body ++ end) (blocks_fine p.blocks good.blocks fits.0) (fine_append body end (statements_fine 2 (statements p.body) good.body fits.1) (pou_end_fine p.kind)))
 
-pub unit_fine : (unit : List PouText) → Each PouInRange unit → Each PouFits unit → FineLines (unit_lines unit)
+pub unit_fine : (unit : List PouText) → Each PouInRange unit → Each PouTextFits unit → FineLines (unit_lines unit)
 unit_fine [] good fits = tt
 unit_fine (p ∷ unit) good fits = fine_append (pou_lines p) (unit_lines unit) (pou_fine p good.0 fits.0) (unit_fine unit good.1 fits.1)

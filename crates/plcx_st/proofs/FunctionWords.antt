@@ -6,7 +6,7 @@ use Rattle.std.specs.Str.{str_eq_ignore_ascii_case}
 use Rattle.std.proofs.lemmas.Bool.{and_parts, not-true}
 use Rattle.std.proofs.lemmas.List.{take-append-drop}
 use Rattle.plcx_types.specs.declared.ty.Ty.{Ty}
-use Rattle.plcx_types.specs.Name.{is_identifier, folded}
+use Rattle.plcx_types.specs.Name.{is_identifier, in_lower_case}
 use Rattle.plcx_types.specs.Reserved.{is_keyword}
 use Rattle.plcx_types.specs.TypeName.{all_types, type_name}
 use Rattle.plcx_funcs.specs.declared.func.Func.{Func}
@@ -41,7 +41,7 @@ all_named = refl
 plain_word : (word : List ℕ) (g : Func) → plain_among plain_functions word ≡ Some g → is_operator g ≡ false → IsWord word
 plain_word word g h plain =
     let found = find_has (λ (f : Func). str_eq_ignore_ascii_case word (plain_name f)) is_named plain_functions g all_named h in
-    word_same word (plain_name g) (bytes_same (folded word) (folded (plain_name g)) found.0) (word_is (plain_name g) (by (is_operator g) plain found.1))
+    word_same word (plain_name g) (bytes_same (in_lower_case word) (in_lower_case (plain_name g)) found.0) (word_is (plain_name g) (by (is_operator g) plain found.1))
   where
     by : (b : Bool) → b ≡ false → (b || is_word (plain_name g)) ≡ true → is_word (plain_name g) ≡ true
     by true e k = absurd (cc)
@@ -57,16 +57,16 @@ all_to from = list_all (λ to. is_word (joined from to)) all_types
 all_joined : list_all all_to all_types ≡ true
 all_joined = refl
 
-after_is : (from : Ty) (rest : List ℕ) (to : Ty) → all_to from ≡ true → type_after rest ≡ Some to → (folded rest ≡ folded (codes "_TO_" ++ type_name to)) × (is_word (joined from to) ≡ true)
+after_is : (from : Ty) (rest : List ℕ) (to : Ty) → all_to from ≡ true → type_after rest ≡ Some to → (in_lower_case rest ≡ in_lower_case (codes "_TO_" ++ type_name to)) × (is_word (joined from to) ≡ true)
 after_is from rest to all h = by (str_eq_ignore_ascii_case (take 4 rest) (codes "_to_")) refl h
   where
     by : (b : Bool) → str_eq_ignore_ascii_case (take 4 rest) (codes "_to_") ≡ b → (if b then type_among all_types (drop 4 rest) else None) ≡ Some to
-        → (folded rest ≡ folded (codes "_TO_" ++ type_name to)) × (is_word (joined from to) ≡ true)
+        → (in_lower_case rest ≡ in_lower_case (codes "_TO_" ++ type_name to)) × (is_word (joined from to) ≡ true)
     by false e k = absurd (cc)
     by true e k =
         let found = find_has (λ (t : Ty). str_eq_ignore_ascii_case (drop 4 rest) (type_name t)) (λ t. is_word (joined from t)) all_types to all k in (
-          ap folded (sym (take-append-drop 4 rest)) ∙ folded_append (take 4 rest) (drop 4 rest)
-              ∙ ap₂ (λ (a b : List ℕ). a ++ b) (bytes_same (folded (take 4 rest)) (codes "_to_") e) (bytes_same (folded (drop 4 rest)) (folded (type_name to)) found.0)
+          ap in_lower_case (sym (take-append-drop 4 rest)) ∙ folded_append (take 4 rest) (drop 4 rest)
+              ∙ ap₂ (λ (a b : List ℕ). a ++ b) (bytes_same (in_lower_case (take 4 rest)) (codes "_to_") e) (bytes_same (in_lower_case (drop 4 rest)) (in_lower_case (type_name to)) found.0)
               ∙ sym (folded_append (codes "_TO_") (type_name to)),
           found.1,
         )
@@ -79,8 +79,8 @@ conversion_word word g h = by_place (underscore word) h
         let first = find_has (λ (t : Ty). str_eq_ignore_ascii_case (take place word) (type_name t)) all_to all_types from all_joined one in
         let second = after_is from (drop place word) to first.1 other in
         word_same word (joined from to)
-        (ap folded (sym (take-append-drop place word)) ∙ folded_append (take place word) (drop place word)
-        ∙ ap₂ (λ (a b : List ℕ). a ++ b) (bytes_same (folded (take place word)) (folded (type_name from)) first.0) second.0
+        (ap in_lower_case (sym (take-append-drop place word)) ∙ folded_append (take place word) (drop place word)
+        ∙ ap₂ (λ (a b : List ℕ). a ++ b) (bytes_same (in_lower_case (take place word)) (in_lower_case (type_name from)) first.0) second.0
         ∙ sym (folded_append (type_name from) (codes "_TO_" ++ type_name to)))
         (word_is (joined from to) second.1)
 

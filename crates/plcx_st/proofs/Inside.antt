@@ -12,10 +12,10 @@ use Rattle.plcx_types.specs.declared.duration.TimeUnit.{TimeUnit}
 use Rattle.plcx_types.specs.declared.duration.TimeUnit.TheVariants as unit
 use Rattle.plcx_types.specs.declared.ty.Ty.{Ty}
 use Rattle.plcx_types.specs.declared.ty.Ty.TheVariants as ty
-use Rattle.plcx_types.specs.Name.{is_next_byte, is_identifier, is_first_byte, folded}
+use Rattle.plcx_types.specs.Name.{is_next_byte, is_identifier, is_first_byte, in_lower_case}
 use Rattle.plcx_types.specs.Reserved.{keywords, is_keyword}
 use Rattle.plcx_types.specs.Numeral as numeral
-use Rattle.plcx_types.specs.Numeral.{is_digit, are_digits, IsWhole}
+use Rattle.plcx_types.specs.Numeral.{is_digit, are_digits, IsWholeNumber}
 use Rattle.plcx_types.specs.Duration as duration
 use Rattle.plcx_types.specs.Duration.{letters_of, AreDigits, AreParts, IsTime}
 use Rattle.plcx_types.specs.Literal as literal
@@ -24,8 +24,9 @@ use Rattle.plcx_lex.specs.declared.token.TokenKind.{TokenKind}
 use Rattle.plcx_lex.specs.declared.token.TokenKind.TheVariants as kind
 use Rattle.plcx_lex.specs.Number as typed
 use Rattle.plcx_lex.specs.Number.{IsTyped}
-use Rattle.plcx_lex.specs.Lexis as lexis
-use Rattle.plcx_lex.specs.Lexis.{is_decimal, is_one_of, ArePlaces, IsAddress, signs, IsToken}
+use Rattle.plcx_types.specs.Address as address
+use Rattle.plcx_types.specs.Address.{is_one_of, ArePlaces, IsAddressForm}
+use Rattle.plcx_lex.specs.Lexis.{is_decimal, sign_texts, IsToken}
 
 -- ---- lists
 
@@ -68,7 +69,7 @@ table_test q (e ∷ table) w all h =
 pub lower_next : (b : ℕ) → is_next_byte (to_ascii_lowercase b) ≡ is_next_byte b
 lower_next b = grind arith
 
-pub folded_next : (xs : List ℕ) → list_all is_next_byte (folded xs) ≡ list_all is_next_byte xs
+pub folded_next : (xs : List ℕ) → list_all is_next_byte (in_lower_case xs) ≡ list_all is_next_byte xs
 folded_next [] = refl
 folded_next (x ∷ xs) = rw (lower_next x, folded_next xs)
 
@@ -79,7 +80,7 @@ keyword_in [] w all h = absurd (let no : false ≡ true = h in cc)
 keyword_in (e ∷ table) w all h =
     let parts = and_parts (list_all is_next_byte e) (list_all (list_all is_next_byte) table) all in
     elim (cases_Bool (str_eq_ignore_ascii_case w e)) [
-      | inl same ↦ sym (folded_next w) ∙ ap (list_all is_next_byte) (same_bytes (folded w) (folded e) same) ∙ folded_next e ∙ parts.0
+      | inl same ↦ sym (folded_next w) ∙ ap (list_all is_next_byte) (same_bytes (in_lower_case w) (in_lower_case e) same) ∙ folded_next e ∙ parts.0
       | inr other ↦ keyword_in table w parts.1 (rw other at h)
     ]
 
@@ -115,7 +116,7 @@ numeral_inner base seen (b ∷ bs) h = elim (cases_Bool (is_digit base b)) [
       and_from (is_inner b) (list_all is_inner bs) (blank_inner b (and_parts seen (nat_eq b 95) parts.0).1) (numeral_inner base false bs parts.1)
 ]
 
-whole_inner : {text : List ℕ} {n : ℤ} → IsWhole text n → list_all is_inner text ≡ true
+whole_inner : {text : List ℕ} {n : ℤ} → IsWholeNumber text n → list_all is_inner text ≡ true
 whole_inner (numeral.plain {text = text} h) = numeral_inner 10 false text h.digits
 whole_inner (numeral.plus {text = text} h) = numeral_inner 10 false text h.digits
 whole_inner (numeral.minus {text = text} h) = numeral_inner 10 false text h.digits
@@ -226,12 +227,12 @@ digit_place : (b : ℕ) → is_digit 10 b ≡ true → is_place b ≡ true
 digit_place b h = grind (arith, nat_tests)
 
 places_bytes : {most : ℕ} {text : List ℕ} → ArePlaces most text → list_all is_place text ≡ true
-places_bytes (lexis.last {digits = digits} d) = all_weaken (is_digit 10) is_place digits digit_place d.all
-places_bytes (lexis.more {digits = digits} {rest = rest} d h) = all_append is_place digits (codes "." ++ rest) (all_weaken (is_digit 10) is_place digits digit_place d.all) (places_bytes h)
+places_bytes (address.last {digits = digits} d) = all_weaken (is_digit 10) is_place digits digit_place d.all
+places_bytes (address.more {digits = digits} {rest = rest} d h) = all_append is_place digits (codes "." ++ rest) (all_weaken (is_digit 10) is_place digits digit_place d.all) (places_bytes h)
 
-pub address_bytes : {text : List ℕ} → IsAddress text → list_all is_place text ≡ true
-address_bytes (lexis.plain {area = area} {places = places} a h) = and_from (is_place area) (list_all is_place places) (member_test is_place (codes "iqm") area refl a) (places_bytes h)
-address_bytes (lexis.sized {area = area} {size = size} {places = places} a s h) =
+pub address_bytes : {text : List ℕ} → IsAddressForm text → list_all is_place text ≡ true
+address_bytes (address.plain {area = area} {places = places} a h) = and_from (is_place area) (list_all is_place places) (member_test is_place (codes "iqm") area refl a) (places_bytes h)
+address_bytes (address.sized {area = area} {size = size} {places = places} a s h) =
     and_from (is_place area) (is_place size && list_all is_place places) (member_test is_place (codes "iqm") area refl a)
     (and_from (is_place size) (list_all is_place places) (member_test is_place (codes "xbwdl") size refl s) (places_bytes h))
 
@@ -240,9 +241,9 @@ abbrev pub head : List ℕ → ℕ
 head [] = 0
 head (b ∷ bs) = b
 
-pub address_head : {text : List ℕ} → IsAddress text → head text ≡ 37
-address_head (lexis.plain a h) = refl
-address_head (lexis.sized a s h) = refl
+pub address_head : {text : List ℕ} → IsAddressForm text → head text ≡ 37
+address_head (address.plain a h) = refl
+address_head (address.sized a s h) = refl
 
 behind_head : (t : Ty) (text : List ℕ) → is_next_byte (head (type_word t ++ (codes "#" ++ text))) ≡ true
 behind_head ty.Bool text = refl
@@ -272,7 +273,7 @@ pub opposite : (c : Bool) → c ≡ true → not c ≡ true → ⊥
 opposite true a b = (let no : false ≡ true = b in absurd cc)
 opposite false a b = (let no : false ≡ true = a in absurd cc)
 
-folded_all : (p : ℕ → Bool) (xs : List ℕ) → list_all p (folded xs) ≡ list_all (λ c. p (to_ascii_lowercase c)) xs
+folded_all : (p : ℕ → Bool) (xs : List ℕ) → list_all p (in_lower_case xs) ≡ list_all (λ c. p (to_ascii_lowercase c)) xs
 folded_all p [] = refl
 folded_all p (x ∷ xs) = ap (λ z. p (to_ascii_lowercase x) && z) (folded_all p xs)
 
@@ -293,23 +294,23 @@ stop_inside kind.Name x w b more h stop = stopped is_next_byte (x ∷ w) b more 
 stop_inside kind.Number x w b more h stop = stopped (λ c. is_inner (to_ascii_lowercase c)) (x ∷ w) b more refl (sym (folded_all is_inner (x ∷ (w ++ b ∷ more))) ∙ typed_inner h.2) stop
 stop_inside kind.Digits x w b more h stop = stopped is_next_byte (x ∷ w) b more refl (digits_bytes (x ∷ (w ++ b ∷ more)) h.0) stop
 stop_inside kind.Address x w b more h stop = stopped (λ c. is_place (to_ascii_lowercase c)) (x ∷ w) b more refl (sym (folded_all is_place (x ∷ (w ++ b ∷ more))) ∙ address_bytes h) stop
-stop_inside kind.Sign x w b more h stop = stopped (λ c. not (is_stop c)) w b more refl (table_test (λ s. list_all (λ c. not (is_stop c)) (drop 1 s)) signs (x ∷ (w ++ b ∷ more)) refl h) stop
+stop_inside kind.Sign x w b more h stop = stopped (λ c. not (is_stop c)) w b more refl (table_test (λ s. list_all (λ c. not (is_stop c)) (drop 1 s)) sign_texts (x ∷ (w ++ b ∷ more)) refl h) stop
 
 -- a word and a point
 pub point_inside : (k : TokenKind) (x : ℕ) (w more : List ℕ) → list_all is_next_byte (x ∷ w) ≡ true → IsToken k (x ∷ (w ++ 46 ∷ more)) → ⊥
 point_inside kind.Keyword x w more word h = (let no : false ≡ true = at_place is_next_byte (x ∷ w) 46 more (keyword_bytes (x ∷ (w ++ 46 ∷ more)) h.0) in absurd cc)
 point_inside kind.Name x w more word h = (let no : false ≡ true = at_place is_next_byte (x ∷ w) 46 more (name_bytes (x ∷ (w ++ 46 ∷ more)) h.0) in absurd cc)
 point_inside kind.Number x w more word h =
-    let split : folded (x ∷ (w ++ 46 ∷ more)) ≡ folded (x ∷ w) ++ 46 ∷ folded more = map-append to_ascii_lowercase (x ∷ w) (46 ∷ more) in
-    let no : false ≡ true = sym (no_hash (folded (x ∷ w)) (folded more) (folded_next (x ∷ w) ∙ word)) ∙ sym (ap hash_first split) ∙ typed_hash h.2 in
+    let split : in_lower_case (x ∷ (w ++ 46 ∷ more)) ≡ in_lower_case (x ∷ w) ++ 46 ∷ in_lower_case more = map-append to_ascii_lowercase (x ∷ w) (46 ∷ more) in
+    let no : false ≡ true = sym (no_hash (in_lower_case (x ∷ w)) (in_lower_case more) (folded_next (x ∷ w) ∙ word)) ∙ sym (ap hash_first split) ∙ typed_hash h.2 in
     absurd cc
 point_inside kind.Digits x w more word h = (let no : false ≡ true = at_place is_next_byte (x ∷ w) 46 more (digits_bytes (x ∷ (w ++ 46 ∷ more)) h.0) in absurd cc)
 point_inside kind.Address x w more word h =
     let no : true ≡ false = sym (lower_next x ∙ (and_parts (is_next_byte x) (list_all is_next_byte w) word).0) ∙ ap is_next_byte (address_head h) in
     absurd cc
-point_inside kind.Sign x w more word h = opposite (is_next_byte x) (and_parts (is_next_byte x) (list_all is_next_byte w) word).0 (table_test (λ s. not (is_next_byte (head s))) signs (x ∷ (w ++ 46 ∷ more)) refl h)
+point_inside kind.Sign x w more word h = opposite (is_next_byte x) (and_parts (is_next_byte x) (list_all is_next_byte w) word).0 (table_test (λ s. not (is_next_byte (head s))) sign_texts (x ∷ (w ++ 46 ∷ more)) refl h)
 
--- the signs that begin no longer token
+-- the sign_texts that begin no longer token
 abbrev pub lone : List ℕ
 lone = 40 ∷ 46 ∷ 47 ∷ []
 
@@ -330,7 +331,7 @@ alone kind.Name a b more one h = first_word a (b ∷ more) (name_bytes (a ∷ b 
 alone kind.Number a b more one h = opposite (is_next_byte (to_ascii_lowercase a)) (typed_head h.2) (member_test (λ c. not (is_next_byte (to_ascii_lowercase c))) lone a refl one)
 alone kind.Digits a b more one h = first_word a (b ∷ more) (digits_bytes (a ∷ b ∷ more) h.0) one
 alone kind.Address a b more one h = opposite (nat_eq (to_ascii_lowercase a) 37) (ap (λ c. nat_eq c 37) (address_head h)) (member_test (λ c. not (nat_eq (to_ascii_lowercase c) 37)) lone a refl one)
-alone kind.Sign a b more one h = opposite (begins_long a) (table_test may_be signs (a ∷ b ∷ more) refl h) (member_test (λ c. not (begins_long c)) lone a refl one)
+alone kind.Sign a b more one h = opposite (begins_long a) (table_test may_be sign_texts (a ∷ b ∷ more) refl h) (member_test (λ c. not (begins_long c)) lone a refl one)
 
 typed_some : {text : List ℕ} {t : Ty} {n : ℤ} → IsTyped text t n → 0 < length text
 typed_some {text = []} h = (let no : false ≡ true = typed_head h in absurd cc)

@@ -9,7 +9,7 @@ use Rattle.plcx_lex.specs.declared.token.TokenKind.{TokenKind}
 use Rattle.plcx_lex.specs.declared.token.TokenKind.TheVariants as kind
 use Rattle.plcx_lex.specs.Token.{Token}
 use Rattle.plcx_lex.specs.Lexis.{IsToken, Piece, Covers, total, tokens_from, is_blank}
-use Rattle.plcx_st.specs.Print.{Shape, shape, sign, name, gap, behind, joined, is_joined, is_one_of, is_name, are_digits, none_behind, none_before, Line, line_text}
+use Rattle.plcx_st.specs.Print.{Shape, shape, sign, name, gap, text_behind, joined, is_joined, is_among, is_name, are_digits, none_behind, none_before, Line, line_text}
 use Rattle.plcx_st.proofs.Inside.{same_bytes, table_test, head, is_stop, token_some, name_bytes}
 use Rattle.plcx_st.proofs.Ends.{Ends, ends_stop, ends_point, ends_open, ends_dot}
 
@@ -87,7 +87,7 @@ by_kind false false text h = (let bad : false ≡ true = h in absurd cc)
 abbrev stop_or_point : List ℕ → Bool
 stop_or_point text = is_stop (head text) || bytes_eq text (codes ".")
 
-before_stops : (text : List ℕ) → is_one_of none_before text ≡ true → bytes_eq text (codes ".") ≡ false → is_stop (head text) ≡ true
+before_stops : (text : List ℕ) → is_among none_before text ≡ true → bytes_eq text (codes ".") ≡ false → is_stop (head text) ≡ true
 before_stops text h point = elim (or_parts (is_stop (head text)) (bytes_eq text (codes ".")) (table_test stop_or_point none_before text refl h)) [
   | inl stop ↦ stop
   | inr dot ↦ (let bad : false ≡ true = sym point ∙ dot in absurd cc)
@@ -101,7 +101,7 @@ or_none : (b : Bool) → (b || false) ≡ true → b ≡ true
 or_none true h = refl
 or_none false h = h
 
-behind_dot : (text : List ℕ) → is_one_of none_behind text ≡ true → (head text ≡ 40 → ⊥) → text ≡ codes "."
+behind_dot : (text : List ℕ) → is_among none_behind text ≡ true → (head text ≡ 40 → ⊥) → text ≡ codes "."
 behind_dot text h other = elim (or_parts (bytes_eq text (codes "(")) (bytes_eq text (codes ".") || false) h) [
   | inl open' ↦ absurd (other (ap head (same_bytes text (codes "(") open')))
   | inr dot ↦ same_bytes text (codes ".") (or_none (bytes_eq text (codes ".")) dot)
@@ -110,8 +110,8 @@ behind_dot text h other = elim (or_parts (bytes_eq text (codes "(")) (bytes_eq t
 ends_joined : (a b : Shape) (rest : List ℕ) → IsToken a.kind a.text → IsToken b.kind b.text → (head a.text ≡ 40 → ⊥) → bytes_eq b.text (codes ".") ≡ false → is_joined a b ≡ true → Ends a.kind a.text (b.text ++ rest)
 unfolding is_joined
 ends_joined a b rest is next other point h =
-    let behind' : Bool = is_one_of none_behind a.text in
-    let before : Bool = is_one_of none_before b.text in
+    let behind' : Bool = is_among none_behind a.text in
+    let before : Bool = is_among none_before b.text in
     let special : Bool = if is_name a.kind then bytes_eq b.text (codes "(") else (if are_digits a.kind then bytes_eq b.text (codes ":") else false) in
     let stop : is_stop (head b.text) ≡ true → Ends a.kind a.text (b.text ++ rest) = λ s. ends_before a.kind a.text b.text rest is (token_some b.kind b.text next) s in
     elim (or_parts (behind' || before) special h) [
@@ -152,24 +152,24 @@ head_append : (w rest : List ℕ) → 0 < length w → head (w ++ rest) ≡ head
 head_append [] rest some = absurd (omega arith)
 head_append (b ∷ w) rest some = refl
 
-line_behind : {a : Shape} {ss : List Shape} → Fine (a ∷ ss) → (bytes : List ℕ) (more : List Shape) → Lexed bytes more → Lexed (a.text ++ (behind a ss ++ 10 ∷ bytes)) (a ∷ (ss ++ more))
-unfolding behind
+line_behind : {a : Shape} {ss : List Shape} → Fine (a ∷ ss) → (bytes : List ℕ) (more : List Shape) → Lexed bytes more → Lexed (a.text ++ (text_behind a ss ++ 10 ∷ bytes)) (a ∷ (ss ++ more))
+unfolding text_behind
 line_behind (plain {a = a} {ss = []} is other point h) bytes more r = ended_line a.kind a.text bytes more (ends_stop a.kind a.text 10 bytes is refl) r
 line_behind (plain {a = a} {ss = b ∷ ss} is other point h) bytes more r =
-    step a b (behind b ss) (10 ∷ bytes) (ss ++ more) is (ends_joined a b (behind b ss ++ 10 ∷ bytes) is (fine_head h) other point) (line_behind h bytes more r)
+    step a b (text_behind b ss) (10 ∷ bytes) (ss ++ more) is (ends_joined a b (text_behind b ss ++ 10 ∷ bytes) is (fine_head h) other point) (line_behind h bytes more r)
 line_behind (opens {ss = []} point star h) bytes more r = ended_line kind.Sign (codes "(") bytes more (ends_open (10 ∷ bytes) (λ e. omega (arith, e))) r
 line_behind (opens {ss = b ∷ ss} point star h) bytes more r =
-    let rest : List ℕ = behind b ss ++ 10 ∷ bytes in
-    step (sign (codes "(")) b (behind b ss) (10 ∷ bytes) (ss ++ more) refl (λ j. ends_open (b.text ++ rest) (λ e. star (sym (head_append b.text rest (token_some b.kind b.text (fine_head h))) ∙ e))) (line_behind h bytes more r)
+    let rest : List ℕ = text_behind b ss ++ 10 ∷ bytes in
+    step (sign (codes "(")) b (text_behind b ss) (10 ∷ bytes) (ss ++ more) refl (λ j. ends_open (b.text ++ rest) (λ e. star (sym (head_append b.text rest (token_some b.kind b.text (fine_head h))) ∙ e))) (line_behind h bytes more r)
 line_behind (member {i = i} {o = o} {ss = ss} is h) bytes more r =
     let dot : Shape = sign (codes ".") in
-    step (name i) dot (behind dot (name o ∷ ss)) (10 ∷ bytes) (name o ∷ (ss ++ more)) is (λ j. ends_point kind.Name i (behind dot (name o ∷ ss) ++ 10 ∷ bytes) is (name_bytes i is.0))
-    (step dot (name o) (behind (name o) ss) (10 ∷ bytes) (ss ++ more) refl (λ j. ends_dot kind.Sign (o ++ (behind (name o) ss ++ 10 ∷ bytes)) refl) (line_behind h bytes more r))
+    step (name i) dot (text_behind dot (name o ∷ ss)) (10 ∷ bytes) (name o ∷ (ss ++ more)) is (λ j. ends_point kind.Name i (text_behind dot (name o ∷ ss) ++ 10 ∷ bytes) is (name_bytes i is.0))
+    (step dot (name o) (text_behind (name o) ss) (10 ∷ bytes) (ss ++ more) refl (λ j. ends_dot kind.Sign (o ++ (text_behind (name o) ss ++ 10 ∷ bytes)) refl) (line_behind h bytes more r))
 
 joined_line : (ss : List Shape) → Fine ss → (bytes : List ℕ) (more : List Shape) → Lexed bytes more → Lexed (joined ss ++ 10 ∷ bytes) (ss ++ more)
 unfolding joined
 joined_line [] h bytes more r = lexed_blank 10 bytes more refl r
-joined_line (a ∷ ss) h bytes more r = subst (λ (l : List ℕ). Lexed l (a ∷ (ss ++ more))) (sym (append_assoc a.text (behind a ss) (10 ∷ bytes))) (line_behind h bytes more r)
+joined_line (a ∷ ss) h bytes more r = subst (λ (l : List ℕ). Lexed l (a ∷ (ss ++ more))) (sym (append_assoc a.text (text_behind a ss) (10 ∷ bytes))) (line_behind h bytes more r)
 
 -- ---- lines
 

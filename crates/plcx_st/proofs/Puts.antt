@@ -11,7 +11,7 @@ use Rattle.plcx_st.specs.declared.printing.Last.{Last}
 use Rattle.plcx_st.specs.declared.printing.Last.TheVariants as last
 use Rattle.plcx_st.specs.declared.printing.Printer.{Printer}
 use Rattle.plcx_meaning.specs.Tree.{Operator}
-use Rattle.plcx_st.specs.Print.{Shape, sign, operator_shape, in_brackets, is_one_of, none_behind, none_before, is_name, are_digits, is_joined, behind, joined, gap, Line, line, line_text}
+use Rattle.plcx_st.specs.Print.{Shape, sign, operator_shape, in_brackets, is_among, none_behind, none_before, is_name, are_digits, is_joined, text_behind, joined, gap, Line, line, line_text}
 use Rattle.plcx_st.specs.Printer.{last_kind, last_of, joins, text_after, last_after, Puts, Writes}
 
 -- ---- the gaps of the printer are those of the printed form
@@ -20,26 +20,26 @@ or_no : (b : Bool) → (b || false) ≡ b
 or_no true = refl
 or_no false = refl
 
-joins_kind : (k : TokenKind) (text : List ℕ) → joins (last_kind k) text ≡ (is_one_of none_before text || (if is_name k then bytes_eq text (codes "(") else (if are_digits k then bytes_eq text (codes ":") else false)))
+joins_kind : (k : TokenKind) (text : List ℕ) → joins (last_kind k) text ≡ (is_among none_before text || (if is_name k then bytes_eq text (codes "(") else (if are_digits k then bytes_eq text (codes ":") else false)))
 unfolding joins
 joins_kind kind.Name text = refl
 joins_kind kind.Digits text = refl
-joins_kind kind.Keyword text = sym (or_no (is_one_of none_before text))
-joins_kind kind.Number text = sym (or_no (is_one_of none_before text))
-joins_kind kind.Address text = sym (or_no (is_one_of none_before text))
-joins_kind kind.Sign text = sym (or_no (is_one_of none_before text))
+joins_kind kind.Keyword text = sym (or_no (is_among none_before text))
+joins_kind kind.Number text = sym (or_no (is_among none_before text))
+joins_kind kind.Address text = sym (or_no (is_among none_before text))
+joins_kind kind.Sign text = sym (or_no (is_among none_before text))
 
-joins_by : (c : Bool) (k : TokenKind) (text : List ℕ) → joins (if c then last.Opening else last_kind k) text ≡ (c || is_one_of none_before text || (if is_name k then bytes_eq text (codes "(") else (if are_digits k then bytes_eq text (codes ":") else false)))
+joins_by : (c : Bool) (k : TokenKind) (text : List ℕ) → joins (if c then last.Opening else last_kind k) text ≡ (c || is_among none_before text || (if is_name k then bytes_eq text (codes "(") else (if are_digits k then bytes_eq text (codes ":") else false)))
 unfolding joins
 joins_by true k text = refl
 joins_by false k text = joins_kind k text
 
 pub joins_is : (a b : Shape) → joins (last_of a) b.text ≡ is_joined a b
 unfolding last_of is_joined
-joins_is a b = joins_by (is_one_of none_behind a.text) a.kind b.text
+joins_is a b = joins_by (is_among none_behind a.text) a.kind b.text
 
-pub after_is : (a : Shape) (shapes : List Shape) → text_after (last_of a) shapes ≡ behind a shapes
-unfolding text_after behind
+pub after_is : (a : Shape) (shapes : List Shape) → text_after (last_of a) shapes ≡ text_behind a shapes
+unfolding text_after text_behind
 after_is a [] = refl
 after_is a (b ∷ shapes) = ap (λ c. (if c then [] else codes " ") ++ (b.text ++ text_after (last_of b) shapes)) (joins_is a b) ∙ ap (λ (z : List ℕ). gap a b ++ (b.text ++ z)) (after_is b shapes)
 

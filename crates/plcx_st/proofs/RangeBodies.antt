@@ -4,7 +4,7 @@ use Rattle.std.specs.Prelude.{Option, Some, None, slice_get, if◌then◌else◌
 use Rattle.std.specs.Option.{option_map, option_and_then}
 use Rattle.plcx_types.specs.declared.ty.Ty.{Ty}
 use Rattle.plcx_types.specs.declared.ty.Ty.TheVariants as ty
-use Rattle.plcx_types.specs.Name.{folded}
+use Rattle.plcx_types.specs.Name.{in_lower_case}
 use Rattle.plcx_types.specs.TypeName.{type_named}
 use Rattle.plcx_funcs.specs.declared.func.Func.{Func}
 use Rattle.plcx_funcs.specs.declared.func.Func.TheVariants as func
@@ -12,10 +12,10 @@ use Rattle.plcx_funcs.specs.Names.{function_named}
 use Rattle.plcx_meaning.specs.Base.{Each}
 use Rattle.plcx_meaning.specs.Tree.{Expression, Number, Name, Member, Apply, Not, Binary, Expressions, no_expression, expression, Argument, Statement, Assign, Call, If, While, Case, Statements, no_statement, statement, Arms, no_arm, arm, statements}
 use Rattle.plcx_meaning.specs.Layout.{Variable, variable_named, Elementary, Composed, composed, parts, parts_of, Scope}
-use Rattle.plcx_meaning.specs.Functions.{group_of, group_place}
-use Rattle.plcx_meaning.specs.Execute.{Instance, place, Formal, Takes, Binds, NoFormal, formal, function_of}
-use Rattle.plcx_meaning.specs.Typed.{variable_in, part_in, place_type, member_type, is_operator, type_at, result_type, call_type, expression_type, expression_types, IsInRange, AreInRange}
-use Rattle.plcx_meaning.specs.Ready.{IsBinding, ValueIsReady, labels, IsLabel, StatementIsReady, StatementsAreReady, ArmsAreReady}
+use Rattle.plcx_meaning.specs.Functions.{group_of, group_index}
+use Rattle.plcx_meaning.specs.Execute.{Instance, referent, Formal, Takes, Binds, NoFormal, formal, function_of}
+use Rattle.plcx_meaning.specs.Typed.{variable_in, part_in, referent_type, member_type, is_operator, type_at, result_type, call_type, expression_type, expression_types, IsInRange, AreInRange}
+use Rattle.plcx_meaning.specs.Ready.{BindingIsReady, ValueIsReady, labels, IsLabel, StatementIsReady, StatementsAreReady, ArmsAreReady}
 use Rattle.plcx_meaning.proofs.Lists.{each_weaker}
 use Rattle.plcx_meaning.proofs.Lookups.{found_name, each_found}
 use Rattle.plcx_st.specs.InRange.{IsWord, HasAny, ExpressionInRange, ExpressionsInRange, ArgumentInRange, StatementInRange, StatementsInRange, ArmsInRange}
@@ -27,8 +27,8 @@ abbrev pub HasWord : Variable → Type 0
 HasWord v = IsWord v.name
 
 -- the name that a variable is found by
-pub found_word : (x : List ℕ) (vs : List Variable) (v : Variable) → Each HasWord vs → variable_named (folded x) vs ≡ Some v → IsWord x
-found_word x vs v all h = word_same x v.name (sym (found_name (folded x) vs v h)) (each_found HasWord (folded x) vs v all h)
+pub found_word : (x : List ℕ) (vs : List Variable) (v : Variable) → Each HasWord vs → variable_named (in_lower_case x) vs ≡ Some v → IsWord x
+found_word x vs v all h = word_same x v.name (sym (found_name (in_lower_case x) vs v h)) (each_found HasWord (in_lower_case x) vs v all h)
 
 -- what is behind something
 and_then_some : {A B : Type 0} (o : Option A) (f : A → Option B) (y : B) → option_and_then f o ≡ Some y → (x : A) × (o ≡ Some x) × (f x ≡ Some y)
@@ -69,14 +69,14 @@ module _ (c : Scope) (own : Each HasWord c.own) (types : (type : List ℕ) → E
   part_words : (i x : List ℕ) (w : Variable) → part_in c i x ≡ Some w → IsWord i × IsWord x
   part_words i x w h = by (variable_in c i) refl h
     where
-      by : (o : Option Variable) → variable_in c i ≡ o → variable_named (folded x) (parts_of c.world o) ≡ Some w → IsWord i × IsWord x
+      by : (o : Option Variable) → variable_in c i ≡ o → variable_named (in_lower_case x) (parts_of c.world o) ≡ Some w → IsWord i × IsWord x
       by None e k = absurd (cc)
       by (Some v) e k = (found_word i c.own v own e, found_word x (parts_of c.world (Some v)) w (parts_words (Some v)) k)
 
-  place_word : (x : List ℕ) (t : Ty) → place_type (place c.world (variable_in c x)) ≡ Some t → IsWord x
+  place_word : (x : List ℕ) (t : Ty) → referent_type (referent c.world (variable_in c x)) ≡ Some t → IsWord x
   place_word x t h = by (variable_in c x) refl h
     where
-      by : (o : Option Variable) → variable_in c x ≡ o → place_type (place c.world o) ≡ Some t → IsWord x
+      by : (o : Option Variable) → variable_in c x ≡ o → referent_type (referent c.world o) ≡ Some t → IsWord x
       by None e k = absurd (cc)
       by (Some v) e k = found_word x c.own v own e
 
@@ -87,10 +87,10 @@ module _ (c : Scope) (own : Each HasWord c.own) (types : (type : List ℕ) → E
       by None e k = absurd (cc)
       by (Some w) e k = part_words i x w e
 
-  instance_word : (i type : List ℕ) → place c.world (variable_in c i) ≡ Instance type → IsWord i
+  instance_word : (i type : List ℕ) → referent c.world (variable_in c i) ≡ Instance type → IsWord i
   instance_word i type h = by (variable_in c i) refl h
     where
-      by : (o : Option Variable) → variable_in c i ≡ o → place c.world o ≡ Instance type → IsWord i
+      by : (o : Option Variable) → variable_in c i ≡ o → referent c.world o ≡ Instance type → IsWord i
       by None e k = absurd (cc)
       by (Some v) e k = found_word i c.own v own e
 
@@ -110,7 +110,7 @@ module _ (c : Scope) (own : Each HasWord c.own) (types : (type : List ℕ) → E
   has_any (expression e es) types g u h k = tt
   has_any no_expression types g u h k =
       let none : types ≡ [] = sym (ap (λ (o : Option (List Ty)). elim o [ Some ts ↦ ts | None ↦ [] ]) h) in
-      let no : None ≡ Some u = sym (no_group (group_place g)) ∙ ap (group_of g) (sym none) ∙ k in
+      let no : None ≡ Some u = sym (no_group (group_index g)) ∙ ap (group_of g) (sym none) ∙ k in
       absurd (cc)
 
   mutual
@@ -135,7 +135,7 @@ module _ (c : Scope) (own : Each HasWord c.own) (types : (type : List ℕ) → E
         let others = mapped_some (expression_types c es) (λ (us : List Ty). first.0 ∷ us) types first.2 in
         (expression_range e first.0 first.1, expressions_range es others.0 others.1)
 
-  binding_range : (e : Expression) (t : Ty) → IsBinding c e t → ExpressionInRange e × ExpressionFits e
+  binding_range : (e : Expression) (t : Ty) → BindingIsReady c e t → ExpressionInRange e × ExpressionFits e
   binding_range (Name x) t h = (found_word x c.own h.variable own h.found, tt)
   binding_range (Number v) t h = absurd h
   binding_range (Member i x) t h = absurd h

@@ -7,7 +7,7 @@ use Rattle.std.specs.Option.{option_map}
 use Rattle.std.proofs.lemmas.Bool.{and_parts}
 use Rattle.plcx_types.specs.declared.ty.Ty.{Ty}
 use Rattle.plcx_types.specs.declared.ty.Ty.TheVariants as ty
-use Rattle.plcx_types.specs.Name.{folded}
+use Rattle.plcx_types.specs.Name.{in_lower_case}
 use Rattle.plcx_types.specs.Range.{InRange}
 use Rattle.plcx_types.specs.TypeName.{type_named}
 use Rattle.plcx_types.specs.Value.{Value}
@@ -18,19 +18,20 @@ use Rattle.plcx_meaning.specs.Base.{AtEdge, AtOutput, Each}
 use Rattle.plcx_meaning.specs.Tree.{PouKind, Class, Local, Input, Output, InOut, Temp, Mark, Plain, Declaration, Block, PouText, statements}
 use Rattle.plcx_meaning.specs.Layout.{Variable, variable, block_variables, variables_of, composed}
 use Rattle.plcx_meaning.specs.Standard.{pin_blocks}
-use Rattle.plcx_meaning.specs.Diagram.{Port, ports, has_edge, Element, has_jump, is_program, Pou, Project, block_named}
+use Rattle.plcx_meaning.specs.Diagram.{Port, ports, has_edge, DiagramElement, has_jump, is_program, Pou, Project, block_named}
 use Rattle.plcx_meaning.specs.Execute as text
 use Rattle.plcx_meaning.specs.Templates.{wire_name, memory_name, counter_name, own, element_memories, element_wires, counter, block, list_text, pou_text, unit_of}
 use Rattle.plcx_meaning.specs.Address.{AddressFits}
-use Rattle.plcx_meaning.specs.Fits.{IsPin, PortsFit, is_known, VariableFits, InOutsFit, PouFits, ProjectFits}
+use Rattle.plcx_meaning.specs.Fits.{IsPin, PortsFit, project_knows, VariableFits, InOutsFit, PouFits, ProjectFits}
 use Rattle.plcx_meaning.specs.Ready.{PouIsReady}
+use Rattle.plcx_meaning.proofs.Fed.{fed_ports}
 use Rattle.plcx_meaning.proofs.Names.{bytes_same}
 use Rattle.plcx_meaning.proofs.Lists.{each_at, each_append, each_map, each_flat_map, each_from, each_weaker, contains_map}
 use Rattle.plcx_meaning.proofs.Enabling.{each_split}
 use Rattle.plcx_meaning.proofs.StaticsWorlds.{block_text, block_fits}
 use Rattle.plcx_meaning.proofs.ReadyUnits.{each_both, unit_ready}
 use Rattle.plcx_st.specs.InRange.{IsWord, DeclarationInRange, IsBare, FitsClass, BlockInRange, StatementsInRange, PouInRange, UnitInRange}
-use Rattle.plcx_st.specs.Fitting.{InitialFits, DeclarationFits, BlockFits, StatementsFit, UnitFits}
+use Rattle.plcx_st.specs.Fitting.{InitialNumberFits, DeclarationFits, BlockFits, StatementsFit, UnitFits}
 use Rattle.plcx_st.specs.Fitting as fitting
 use Rattle.plcx_st.specs.Depth.{pou_depth, printed_depth}
 use Rattle.plcx_st.proofs.Words.{word_same, good_word, type_word, elementary_word, standard_word, wire_word, edge_word, output_word, counter_word}
@@ -51,17 +52,17 @@ of_flat_map P f (x ∷ xs) h = let parts = each_split P (f x) (flat_map f xs) h 
 
 -- ---- the names of types
 
-named_block : (type : List ℕ) (ps : Project) (q : Pou) → block_named type ps ≡ Some q → folded type ≡ folded q.name
+named_block : (type : List ℕ) (ps : Project) (q : Pou) → block_named type ps ≡ Some q → in_lower_case type ≡ in_lower_case q.name
 named_block type [] q h = absurd (cc)
-named_block type (p ∷ ps) q h = by (not (is_program p.kind) && bytes_eq (folded p.name) (folded type)) refl (named_block type ps q) h
+named_block type (p ∷ ps) q h = by (not (is_program p.kind) && bytes_eq (in_lower_case p.name) (in_lower_case type)) refl (named_block type ps q) h
   where
-    by : (b : Bool) → (not (is_program p.kind) && bytes_eq (folded p.name) (folded type)) ≡ b → (block_named type ps ≡ Some q → folded type ≡ folded q.name) → (if b then Some p else block_named type ps) ≡ Some q → folded type ≡ folded q.name
+    by : (b : Bool) → (not (is_program p.kind) && bytes_eq (in_lower_case p.name) (in_lower_case type)) ≡ b → (block_named type ps ≡ Some q → in_lower_case type ≡ in_lower_case q.name) → (if b then Some p else block_named type ps) ≡ Some q → in_lower_case type ≡ in_lower_case q.name
     by true e later k =
         let same : p ≡ q = cc in
-        subst (λ (r : Pou). folded type ≡ folded r.name) same (sym (bytes_same (folded p.name) (folded type) (and_parts (not (is_program p.kind)) (bytes_eq (folded p.name) (folded type)) e).1))
+        subst (λ (r : Pou). in_lower_case type ≡ in_lower_case r.name) same (sym (bytes_same (in_lower_case p.name) (in_lower_case type) (and_parts (not (is_program p.kind)) (bytes_eq (in_lower_case p.name) (in_lower_case type)) e).1))
     by false e later k = later k
 
-known_word : (project : Project) → Each (PouFits project) project → (type : List ℕ) → is_known project type ≡ true → IsWord type
+known_word : (project : Project) → Each (PouFits project) project → (type : List ℕ) → project_knows project type ≡ true → IsWord type
 known_word project all type known = by (type_named type) refl (kind_named type) refl (block_named type project) refl known
   where
     by : (t : Option Ty) → type_named type ≡ t → (k : Option StdKind) → kind_named type ≡ k → (q : Option Pou) → block_named type project ≡ q → (is_some t || (is_some k || is_some q)) ≡ true → IsWord type
@@ -76,16 +77,16 @@ edge_range : (b : Bool) (id : ℕ) → IsWord (memory_name (AtEdge id)) → Each
 edge_range true id h = ((h, tt, type_word ty.Bool), tt)
 edge_range false id h = tt
 
-memories_range : (e : Element) → PortsFit e → Each DeclarationInRange (element_memories e)
-memories_range e fit =
+memories_range : (p : Pou) (e : DiagramElement) → PortsFit p e → Each DeclarationInRange (element_memories e)
+memories_range p e fit =
     each_append DeclarationInRange (if has_edge e.kind then own (memory_name (AtEdge e.id)) ty.Bool ∷ [] else []) _ (edge_range (has_edge e.kind) e.id (edge_word e.id fit.small))
     (each_map DeclarationInRange (λ (o : Port). own (memory_name (AtOutput e.id o.pin)) o.ty) e.fed (each_weaker (Contains (ports e.kind)) _ e.fed (λ o there.
-    let pin = each_at IsPin (ports e.kind) o fit.names there in (output_word e.id o.pin fit.small pin.0 pin.1, tt, type_word o.ty)) fit.fed))
+    let pin = each_at IsPin (ports e.kind) o fit.names there in (output_word e.id o.pin fit.small pin.0 pin.1, tt, type_word o.ty)) (fed_ports p e fit)))
 
-wires_range : (e : Element) → PortsFit e → Each DeclarationInRange (element_wires e)
-wires_range e fit = each_map DeclarationInRange (λ (o : Port). own (wire_name e.id o.pin) o.ty) (ports e.kind) (each_weaker IsPin _ (ports e.kind) (λ o pin. (wire_word e.id o.pin fit.small pin.0 pin.1, tt, type_word o.ty)) fit.names)
+wires_range : (p : Pou) (e : DiagramElement) → PortsFit p e → Each DeclarationInRange (element_wires e)
+wires_range p e fit = each_map DeclarationInRange (λ (o : Port). own (wire_name e.id o.pin) o.ty) (ports e.kind) (each_weaker IsPin _ (ports e.kind) (λ o pin. (wire_word e.id o.pin fit.small pin.0 pin.1, tt, type_word o.ty)) fit.names)
 
-counter_range : (networks : List (List Element)) → Each DeclarationInRange (counter networks)
+counter_range : (networks : List (List DiagramElement)) → Each DeclarationInRange (counter networks)
 counter_range networks = by (has_jump networks)
   where
     by : (b : Bool) → Each DeclarationInRange (if b then own counter_name ty.Dint ∷ [] else [])
@@ -102,7 +103,7 @@ temporary_range (d ∷ ds) h = ((refl, h), tt)
 
 -- ---- the variables of a diagram
 
-initial_fits : (initial : Option Value) → ((value : Value) → initial ≡ Some value → InRange value.ty value.n) → InitialFits initial
+initial_fits : (initial : Option Value) → ((value : Value) → initial ≡ Some value → InRange value.ty value.n) → InitialNumberFits initial
 initial_fits None h = tt
 initial_fits (Some v) h = h v refl
 
@@ -149,17 +150,17 @@ module _ (project : Project) (all : Each (PouFits project) project) where
         fits.addresses (λ b h k. list_range p.kind b.class b.mark b.declarations h.0 h.1 k))
 
     kept_range : Each DeclarationInRange (flat_map element_memories p.elements)
-    kept_range = each_flat_map DeclarationInRange element_memories p.elements (each_weaker PortsFit _ p.elements memories_range fits.ports)
+    kept_range = each_flat_map DeclarationInRange element_memories p.elements (each_weaker (PortsFit p) _ p.elements (memories_range p) fits.ports)
 
     passing_range : Each DeclarationInRange (flat_map element_wires p.elements ++ counter p.networks)
-    passing_range = each_append DeclarationInRange (flat_map element_wires p.elements) (counter p.networks) (each_flat_map DeclarationInRange element_wires p.elements (each_weaker PortsFit _ p.elements wires_range fits.ports)) (counter_range p.networks)
+    passing_range = each_append DeclarationInRange (flat_map element_wires p.elements) (counter p.networks) (each_flat_map DeclarationInRange element_wires p.elements (each_weaker (PortsFit p) _ p.elements (wires_range p) fits.ports)) (counter_range p.networks)
 
     blocks_range : Each BlockInRange (pou_text p).blocks
     blocks_range =
         each_append BlockInRange (flat_map list_text p.lists) _ lists_range
         (each_append BlockInRange (block Local Plain (flat_map element_memories p.elements)) _ (local_range _ kept_range) (temporary_range _ passing_range))
 
-    memories_fit : (e : Element) → Each DeclarationFits (element_memories e)
+    memories_fit : (e : DiagramElement) → Each DeclarationFits (element_memories e)
     memories_fit e = each_append DeclarationFits (if has_edge e.kind then own (memory_name (AtEdge e.id)) ty.Bool ∷ [] else []) _ (by (has_edge e.kind)) (each_map DeclarationFits (λ (o : Port). own (memory_name (AtOutput e.id o.pin)) o.ty) e.fed (each_from _ e.fed (λ o there. tt)))
       where
         by : (b : Bool) → Each DeclarationFits (if b then own (memory_name (AtEdge e.id)) ty.Bool ∷ [] else [])
@@ -212,14 +213,14 @@ words_from (v ∷ vs) h = let parts = and_parts (has_word v) (list_all has_word 
 composed_words : (project : Project) → Each (PouFits project) project → (type : List ℕ) → Each HasWord (composed (text.world_of (unit_of project)) type)
 composed_words project all type = by_kind (kind_named type)
   where
-    of_block : (o : Option Pou) → block_named (folded type) project ≡ o → Each HasWord (variables_of (elim (option_map pou_text o) [ Some p ↦ p.blocks | None ↦ [] ]))
+    of_block : (o : Option Pou) → block_named (in_lower_case type) project ≡ o → Each HasWord (variables_of (elim (option_map pou_text o) [ Some p ↦ p.blocks | None ↦ [] ]))
     of_block None e = tt
-    of_block (Some q) e = variables_words project all q (block_fits project (folded type) project q all e)
+    of_block (Some q) e = variables_words project all q (block_fits project (in_lower_case type) project q all e)
 
-    by_kind : (o : Option StdKind) → Each HasWord (elim o [ Some k ↦ variables_of (pin_blocks k) | None ↦ variables_of (text.world_of (unit_of project) (folded type)) ])
+    by_kind : (o : Option StdKind) → Each HasWord (elim o [ Some k ↦ variables_of (pin_blocks k) | None ↦ variables_of (text.world_of (unit_of project) (in_lower_case type)) ])
     by_kind (Some k) = words_from (variables_of (pin_blocks k)) (pins_pass k)
     by_kind None =
-        subst (λ (o : Option PouText). Each HasWord (variables_of (elim o [ Some p ↦ p.blocks | None ↦ [] ]))) (sym (block_text (folded type) project)) (of_block (block_named (folded type) project) refl)
+        subst (λ (o : Option PouText). Each HasWord (variables_of (elim o [ Some p ↦ p.blocks | None ↦ [] ]))) (sym (block_text (in_lower_case type) project)) (of_block (block_named (in_lower_case type) project) refl)
 
 -- ---- a project
 
@@ -244,5 +245,5 @@ in_range project fits = record {
 
 pub fits_types : (project : Project) → ProjectFits project → UnitFits (unit_of project)
 fits_types project fits =
-    each_map fitting.PouFits pou_text project (each_from _ project (λ p there.
+    each_map fitting.PouTextFits pou_text project (each_from _ project (λ p there.
     (blocks_fit project fits.pous p (each_at (PouFits project) project p fits.pous there), (body_of project fits p there).1)))

@@ -12,7 +12,7 @@ use Rattle.plcx_st.specs.declared.tree.Op.{Op}
 use Rattle.plcx_st.specs.declared.tree.Op.TheVariants as op
 use Rattle.plcx_st.specs.declared.tree.Expr.{Expr}
 use Rattle.plcx_st.specs.declared.tree.Expr.TheVariants as e
-use Rattle.plcx_st.specs.Terminal.{terminal, terminal_of}
+use Rattle.plcx_lex.specs.Terminal.{terminal, terminal_of}
 use Rattle.plcx_st.specs.Grammar as grammar
 use Rattle.plcx_st.specs.Grammar.{IsExpr, AreExprs, operator}
 use Rattle.plcx_st.specs.Meant.{op_meant, expr_meant}

@@ -13,7 +13,7 @@ use Rattle.plcx_st.specs.declared.tree.Arg.{Arg}
 use Rattle.plcx_st.specs.declared.tree.Arm.{Arm}
 use Rattle.plcx_st.specs.declared.tree.Stmt.{Stmt}
 use Rattle.plcx_st.specs.declared.tree.Stmt.TheVariants as s
-use Rattle.plcx_st.specs.Terminal.{terminal, terminal_of}
+use Rattle.plcx_lex.specs.Terminal.{terminal, terminal_of}
 use Rattle.plcx_st.specs.Grammar as grammar
 use Rattle.plcx_st.specs.Grammar.{IsExpr, IsArg, AreArgs, IsStmt, AreStmts, AreArms}
 use Rattle.plcx_st.specs.Meant.{expr_meant, arg_meant, stmt_meant}

@@ -21,14 +21,14 @@ use Rattle.plcx_st.specs.declared.tree.TextKind.{TextKind}
 use Rattle.plcx_st.specs.declared.tree.TextKind.TheVariants as kinds
 use Rattle.plcx_st.specs.declared.tree.TextBlock.{TextBlock}
 use Rattle.plcx_st.specs.declared.tree.PouText.{PouText}
-use Rattle.plcx_st.specs.Terminal.{terminal_of}
+use Rattle.plcx_lex.specs.Terminal.{terminal_of}
 use Rattle.plcx_st.specs.Grammar as grammar
 use Rattle.plcx_st.specs.Grammar.{IsAddress, IsInitial, IsDecl, IsBareDecl, IsMark, IsBlock, IsPou, ArePous, AreStmts, marked_class, heading, ending}
 use Rattle.plcx_st.specs.Meant.{number_meant, stmt_meant, decl_meant, class_meant, mark_meant, block_meant, kind_meant, pou_meant}
 use Rattle.plcx_st.specs.Print.{Shape, shape, word, sign, name, number, Line, line, ended, statements_lines, address_shapes, initial_shapes, declaration_line, class_word, mark_shapes, block_lines, pou_word, pou_end, pou_lines, unit_lines}
 use Rattle.plcx_st.specs.Depth.{pou_depth, printed_depth}
 use Rattle.plcx_st.specs.InRange.{AddressInRange, DeclarationInRange, IsBare, BlockInRange, PouInRange}
-use Rattle.plcx_st.specs.Fitting.{InitialFits, DeclarationFits, BlockFits, PouFits}
+use Rattle.plcx_st.specs.Fitting.{InitialNumberFits, DeclarationFits, BlockFits, PouTextFits}
 use Rattle.plcx_st.proofs.Literals.{literal_printed}
 use Rattle.plcx_st.proofs.Lexed.{shapes_of}
 use Rattle.plcx_st.proofs.Split.{Shaped, split, headed, empty, last_one, terminal_is, text_is}
@@ -60,7 +60,7 @@ record InitialOf (ts : List Token) (v : Option Value) : Type 0 where
   stands : IsInitial ts value
   is : option_map number_meant value ≡ v
 
-spelled_initial : (v : Option Value) (ts : List Token) → InitialFits v → Shaped ts (initial_shapes v) → InitialOf ts v
+spelled_initial : (v : Option Value) (ts : List Token) → InitialNumberFits v → Shaped ts (initial_shapes v) → InitialOf ts v
 spelled_initial None ts fits h = record { value = None; stands = subst (λ (z : List Token). IsInitial z None) (sym (empty ts h)) grammar.no_initial; is = refl }
 spelled_initial (Some v) ts fits h =
     let assign = sign (codes ":=") in
@@ -313,7 +313,7 @@ record PouOf (ts : List Token) (p : meaning.PouText) (depth : ℕ) : Type 0 wher
   stands : IsPou ts value depth
   is : pou_meant value ≡ p
 
-spelled_pou : (p : meaning.PouText) (ts : List Token) → PouInRange p → PouFits p → Shaped ts (shapes_of (pou_lines p)) → PouOf ts p (pou_depth p)
+spelled_pou : (p : meaning.PouText) (ts : List Token) → PouInRange p → PouTextFits p → Shaped ts (shapes_of (pou_lines p)) → PouOf ts p (pou_depth p)
 spelled_pou p ts good fits h =
     let first = word (pou_word p.kind) in
     let last = word (pou_end p.kind) in
@@ -345,7 +345,7 @@ pub record PousOf (ts : List Token) (unit : List meaning.PouText) (depth : ℕ) 
   pub stand : ArePous ts values depth
   pub is : map pou_meant values ≡ unit
 
-pub spelled_unit : (unit : List meaning.PouText) (ts : List Token) → Each PouInRange unit → Each PouFits unit → Shaped ts (shapes_of (unit_lines unit)) → PousOf ts unit (printed_depth unit)
+pub spelled_unit : (unit : List meaning.PouText) (ts : List Token) → Each PouInRange unit → Each PouTextFits unit → Shaped ts (shapes_of (unit_lines unit)) → PousOf ts unit (printed_depth unit)
 unfolding printed_depth
 spelled_unit [] ts good fits h = record { values = []; stand = subst (λ (l : List Token). ArePous l [] 0) (sym (empty ts h)) grammar.no_pou; is = refl }
 spelled_unit (p ∷ unit) ts good fits h =

@@ -1,7 +1,7 @@
 -- Tokens of shapes that are put together are tokens put together.
 use Rattle.std.proofs.Common.{◌≡◌, List, [], ◌∷◌, ◌++◌, map, drop, refl, ap, ◌∙◌}
 use Rattle.plcx_lex.specs.Token.{Token}
-use Rattle.plcx_st.specs.Terminal.{terminal, terminal_of}
+use Rattle.plcx_lex.specs.Terminal.{terminal, terminal_of}
 use Rattle.plcx_st.specs.Print.{Shape}
 use Rattle.plcx_st.proofs.Lexed.{shape_of}
 

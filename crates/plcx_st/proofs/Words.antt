@@ -10,7 +10,7 @@ use Rattle.std.proofs.lemmas.List.{length-map, length-append}
 use Rattle.std.proofs.lemmas.List.Folds.{list_all-append}
 use Rattle.plcx_types.specs.declared.ty.Ty.{Ty}
 use Rattle.plcx_types.specs.declared.ty.Ty.TheVariants as ty
-use Rattle.plcx_types.specs.Name.{is_first_byte, is_next_byte, is_identifier, folded}
+use Rattle.plcx_types.specs.Name.{is_first_byte, is_next_byte, is_identifier, in_lower_case}
 use Rattle.plcx_types.specs.Reserved.{keywords, is_keyword, is_listed, is_own, is_reserved}
 use Rattle.plcx_types.specs.TypeName.{all_types, type_name, type_named}
 use Rattle.plcx_types.specs.TypeName as types
@@ -28,20 +28,20 @@ use Rattle.plcx_st.specs.InRange.{IsWord}
 abbrev identifier_by : ℕ → Bool → Bool → Bool
 identifier_by n front all = nat_lt 0 n && nat_le n 128 && front && all
 
-identifier_folded : (x : List ℕ) → is_identifier (folded x) ≡ is_identifier x
+identifier_folded : (x : List ℕ) → is_identifier (in_lower_case x) ≡ is_identifier x
 identifier_folded [] = refl
 identifier_folded (b ∷ x) =
-    ap (λ n. identifier_by n (is_first_byte (to_ascii_lowercase b)) (list_all is_next_byte (folded (b ∷ x)))) (length-map (b ∷ x) to_ascii_lowercase)
+    ap (λ n. identifier_by n (is_first_byte (to_ascii_lowercase b)) (list_all is_next_byte (in_lower_case (b ∷ x)))) (length-map (b ∷ x) to_ascii_lowercase)
     ∙ ap₂ (identifier_by (length (b ∷ x))) (fold_first b) (fold_all is_next_byte (b ∷ x) fold_next)
 
 -- a keyword by its letters in lower case
 abbrev keyword_of : List ℕ → Bool
-keyword_of key = list_any (λ entry. bytes_eq key (folded entry)) keywords
+keyword_of key = list_any (λ entry. bytes_eq key (in_lower_case entry)) keywords
 
-pub keyword_same : (x y : List ℕ) → folded x ≡ folded y → is_keyword x ≡ is_keyword y
+pub keyword_same : (x y : List ℕ) → in_lower_case x ≡ in_lower_case y → is_keyword x ≡ is_keyword y
 keyword_same x y same = ap keyword_of same
 
-pub word_same : (x y : List ℕ) → folded x ≡ folded y → IsWord y → IsWord x
+pub word_same : (x y : List ℕ) → in_lower_case x ≡ in_lower_case y → IsWord y → IsWord x
 word_same x y same h = (sym (identifier_folded x) ∙ ap is_identifier same ∙ identifier_folded y ∙ h.0, keyword_same x y same ∙ h.1)
 
 -- a name that may be declared
@@ -82,22 +82,22 @@ kind_word kind.RTrig = (refl, refl)
 kind_word kind.FTrig = (refl, refl)
 
 -- what a name in a table means has that name
-type_found : (ts : List Ty) (word : List ℕ) (t : Ty) → types.first_named word ts ≡ Some t → folded word ≡ folded (type_name t)
+type_found : (ts : List Ty) (word : List ℕ) (t : Ty) → types.first_named word ts ≡ Some t → in_lower_case word ≡ in_lower_case (type_name t)
 type_found [] word t h = absurd (cc)
 type_found (u ∷ ts) word t h = by (str_eq_ignore_ascii_case word (type_name u)) refl (type_found ts word t) h
   where
-    by : (b : Bool) → str_eq_ignore_ascii_case word (type_name u) ≡ b → (types.first_named word ts ≡ Some t → folded word ≡ folded (type_name t)) → (if b then Some u else types.first_named word ts) ≡ Some t
-        → folded word ≡ folded (type_name t)
-    by true e later k = let same : u ≡ t = cc in subst (λ v. folded word ≡ folded (type_name v)) same (bytes_same (folded word) (folded (type_name u)) e)
+    by : (b : Bool) → str_eq_ignore_ascii_case word (type_name u) ≡ b → (types.first_named word ts ≡ Some t → in_lower_case word ≡ in_lower_case (type_name t)) → (if b then Some u else types.first_named word ts) ≡ Some t
+        → in_lower_case word ≡ in_lower_case (type_name t)
+    by true e later k = let same : u ≡ t = cc in subst (λ v. in_lower_case word ≡ in_lower_case (type_name v)) same (bytes_same (in_lower_case word) (in_lower_case (type_name u)) e)
     by false e later k = later k
 
-kind_found : (ks : List StdKind) (word : List ℕ) (k : StdKind) → kinds.first_named word ks ≡ Some k → folded word ≡ folded (kind_name k)
+kind_found : (ks : List StdKind) (word : List ℕ) (k : StdKind) → kinds.first_named word ks ≡ Some k → in_lower_case word ≡ in_lower_case (kind_name k)
 kind_found [] word k h = absurd (cc)
 kind_found (u ∷ ks) word k h = by (str_eq_ignore_ascii_case word (kind_name u)) refl (kind_found ks word k) h
   where
-    by : (b : Bool) → str_eq_ignore_ascii_case word (kind_name u) ≡ b → (kinds.first_named word ks ≡ Some k → folded word ≡ folded (kind_name k)) → (if b then Some u else kinds.first_named word ks) ≡ Some k
-        → folded word ≡ folded (kind_name k)
-    by true e later l = let same : u ≡ k = cc in subst (λ v. folded word ≡ folded (kind_name v)) same (bytes_same (folded word) (folded (kind_name u)) e)
+    by : (b : Bool) → str_eq_ignore_ascii_case word (kind_name u) ≡ b → (kinds.first_named word ks ≡ Some k → in_lower_case word ≡ in_lower_case (kind_name k)) → (if b then Some u else kinds.first_named word ks) ≡ Some k
+        → in_lower_case word ≡ in_lower_case (kind_name k)
+    by true e later l = let same : u ≡ k = cc in subst (λ v. in_lower_case word ≡ in_lower_case (kind_name v)) same (bytes_same (in_lower_case word) (in_lower_case (kind_name u)) e)
     by false e later l = later l
 
 pub elementary_word : (word : List ℕ) (t : Ty) → type_named word ≡ Some t → IsWord word

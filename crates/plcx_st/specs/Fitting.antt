@@ -5,9 +5,11 @@ use Rattle.plcx_types.specs.Value.{Value}
 use Rattle.plcx_meaning.specs.Base.{Each}
 use Rattle.plcx_meaning.specs.Tree.{Declaration, Block, Expression, Number, Name, Member, Apply, Not, Binary, Expressions, no_expression, expression, Argument, Statement, Assign, Call, If, While, Case, Statements, no_statement, statement, Arms, no_arm, arm, PouText, statements}
 
+-- the literal lies in its type
 abbrev pub NumberFits : Value → Type 0
 NumberFits v = InRange v.ty v.n
 
+-- all literals of an expression lie in their types
 abbrev mutual
   pub ExpressionFits : Expression → Type 0
   ExpressionFits (Number v) = NumberFits v
@@ -21,9 +23,11 @@ abbrev mutual
   ExpressionsFit no_expression = Unit {0}
   ExpressionsFit (expression e es) = ExpressionFits e × ExpressionsFit es
 
+-- so of an argument
 abbrev pub ArgumentFits : Argument → Type 0
 ArgumentFits a = ExpressionFits a.value
 
+-- so of statements; the labels of a CASE are kept as they are written
 abbrev mutual
   pub StatementFits : Statement → Type 0
   StatementFits (Assign x e) = ExpressionFits e
@@ -40,18 +44,23 @@ abbrev mutual
   ArmsFit no_arm = Unit {0}
   ArmsFit (arm label body arms) = (label ≤ 2147483647) × StatementsFit body × ArmsFit arms
 
-abbrev pub InitialFits : Option Value → Type 0
-InitialFits None = Unit {0}
-InitialFits (Some v) = NumberFits v
+-- so of an initial literal, where there is one
+abbrev pub InitialNumberFits : Option Value → Type 0
+InitialNumberFits None = Unit {0}
+InitialNumberFits (Some v) = NumberFits v
 
+-- so of a declaration
 abbrev pub DeclarationFits : Declaration → Type 0
-DeclarationFits d = InitialFits d.initial
+DeclarationFits d = InitialNumberFits d.initial
 
+-- so of a block of declarations
 abbrev pub BlockFits : Block → Type 0
 BlockFits b = Each DeclarationFits b.declarations
 
-abbrev pub PouFits : PouText → Type 0
-PouFits p = Each BlockFits p.blocks × StatementsFit (statements p.body)
+-- so of a POU
+abbrev pub PouTextFits : PouText → Type 0
+PouTextFits p = Each BlockFits p.blocks × StatementsFit (statements p.body)
 
+-- all literals of a unit lie in their types, and its labels are at most 2147483647
 abbrev pub UnitFits : List PouText → Type 0
-UnitFits unit = Each PouFits unit
+UnitFits unit = Each PouTextFits unit

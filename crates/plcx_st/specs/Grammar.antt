@@ -5,9 +5,9 @@ use Rattle.plcx_types.specs.declared.ty.Ty.{Ty}
 use Rattle.plcx_types.specs.Numeral.{number_from}
 use Rattle.plcx_lex.specs.Token.{Token}
 use Rattle.plcx_lex.specs.Number.{IsLiteral}
-use Rattle.plcx_st.specs.Terminal.{terminal}
-use Rattle.plcx_st.specs.declared.terminal.Terminal.{Terminal}
-use Rattle.plcx_st.specs.declared.terminal.Terminal.TheVariants as t
+use Rattle.plcx_lex.specs.Terminal.{terminal}
+use Rattle.plcx_lex.specs.declared.terminal.Terminal.{Terminal}
+use Rattle.plcx_lex.specs.declared.terminal.Terminal.TheVariants as t
 use Rattle.plcx_st.specs.declared.tree.Word.{Word}
 use Rattle.plcx_st.specs.declared.tree.Number.{Number}
 use Rattle.plcx_st.specs.declared.tree.TextKind.{TextKind}

@@ -17,6 +17,7 @@ abbrev pub HasAny : Expressions → Type 0
 HasAny no_expression = ⊥
 HasAny (expression e es) = Unit {0}
 
+-- names of an expression are names, and calls of functions have an argument
 abbrev mutual
   pub ExpressionInRange : Expression → Type 0
   ExpressionInRange (Number v) = Unit {0}
@@ -30,9 +31,11 @@ abbrev mutual
   ExpressionsInRange no_expression = Unit {0}
   ExpressionsInRange (expression e es) = ExpressionInRange e × ExpressionsInRange es
 
+-- so of an argument
 abbrev pub ArgumentInRange : Argument → Type 0
 ArgumentInRange a = IsWord a.formal × ExpressionInRange a.value
 
+-- so of statements
 abbrev mutual
   pub StatementInRange : Statement → Type 0
   StatementInRange (Assign x e) = IsWord x × ExpressionInRange e
@@ -54,6 +57,7 @@ abbrev pub AddressInRange : Option (List ℕ) → Type 0
 AddressInRange None = Unit {0}
 AddressInRange (Some address) = IsToken kind.Address address × (map to_ascii_uppercase address ≡ address)
 
+-- the name and the type are names, the address is one
 abbrev pub DeclarationInRange : Declaration → Type 0
 DeclarationInRange d = IsWord d.name × AddressInRange d.address × IsWord d.ty
 
@@ -69,15 +73,18 @@ FitsClass Output b = Unit {0}
 FitsClass InOut b = (b.mark ≡ Plain) × Each IsBare b.declarations
 FitsClass Temp b = b.mark ≡ Plain
 
+-- so of a block of declarations
 abbrev pub BlockInRange : Block → Type 0
 BlockInRange b = FitsClass b.class b × Each DeclarationInRange b.declarations
 
+-- so of a POU
 pub record PouInRange (p : PouText) : Type 0 where
   pub name : IsWord p.name
   pub blocks : Each BlockInRange p.blocks
   pub body : StatementsInRange (statements p.body)
 
--- a unit in range: each name is one name token, each address is one address token in upper case, each call of a function has an argument, blocks have the marks and declarations of the grammar, and the printed form is at most so deep
+-- a unit in range: each name is one name token, each address is one address token in upper case, each call of a function has an argument,
+-- blocks have the marks and declarations of the grammar, and the printed form is at most so deep
 pub record UnitInRange (unit : List PouText) : Type 0 where
   pub pous : Each PouInRange unit
   pub depth : printed_depth unit ≤ limit

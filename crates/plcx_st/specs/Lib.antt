@@ -1,4 +1,4 @@
-pub mod Terminal
+-- What the contracts of public functions say.
 pub mod Grammar
 pub mod Place
 pub mod Meant
@@ -6,5 +6,6 @@ pub mod Print
 pub mod Depth
 pub mod Fitting
 pub mod InRange
-pub mod Printer
 pub mod Stands
+-- What serves proofs alone: how the printer's buffer grows.
+pub mod Printer

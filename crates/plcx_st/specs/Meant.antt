@@ -23,10 +23,12 @@ use Rattle.plcx_st.specs.declared.tree.Stmt.TheOpen.{Stmt-F, Arm-F}
 use Rattle.plcx_st.specs.declared.tree.PouText.{PouText}
 use Rattle.plcx_st.specs.declared.tree.Unit as unit
 
+-- what a POU is
 abbrev pub kind_meant : TextKind → PouKind
 kind_meant kind.Program = PouKind.Program
 kind_meant kind.FunctionBlock = PouKind.FunctionBlock
 
+-- what a block declares
 abbrev pub class_meant : TextClass → Class
 class_meant class.Var = Class.Local
 class_meant class.Input = Class.Input
@@ -34,11 +36,13 @@ class_meant class.Output = Class.Output
 class_meant class.InOut = Class.InOut
 class_meant class.Temp = Class.Temp
 
+-- the mark of a block
 abbrev pub mark_meant : Mark → tree.Mark
 mark_meant mark.Plain = tree.Mark.Plain
 mark_meant mark.Constant = tree.Mark.Constant
 mark_meant mark.Retain = tree.Mark.Retain
 
+-- an operator
 abbrev pub op_meant : Op → Operator
 op_meant op.Or = Operator.Or
 op_meant op.Xor = Operator.Xor
@@ -55,9 +59,11 @@ op_meant op.Times = Operator.Times
 op_meant op.Divide = Operator.Divide
 op_meant op.Mod = Operator.Mod
 
+-- a literal as its value
 abbrev pub number_meant : Number → Value
 number_meant v = record { ty = v.ty; n = v.n }
 
+-- an expression whose parts are done
 abbrev pub expr_step : Expr-F Expression → Expression
 expr_step (Expr-F.Number v) = Expression.Number (number_meant v)
 expr_step (Expr-F.Name w) = Expression.Name w.name
@@ -66,9 +72,11 @@ expr_step (Expr-F.Call f args) = Expression.Apply f.name (expressions args)
 expr_step (Expr-F.Not operand span) = Expression.Not operand
 expr_step (Expr-F.Binary o left right) = Expression.Binary (op_meant o) left right
 
+-- an expression
 abbrev pub expr_meant : Expr → Expression
 expr_meant = fold-Expr Expression expr_step
 
+-- an argument of a call
 abbrev pub arg_meant : Arg → Argument
 arg_meant a = record { formal = a.formal.name; value = expr_meant a.value }
 
@@ -76,9 +84,11 @@ arg_meant a = record { formal = a.formal.name; value = expr_meant a.value }
 abbrev pub Labelled : Type 0
 Labelled = ℕ × List Statement
 
+-- an arm whose statements are done
 abbrev pub arm_step : Arm-F Statement Labelled → Labelled
 arm_step a = (a.label, a.body)
 
+-- a statement whose parts are done
 abbrev pub stmt_step : Stmt-F Statement Labelled → Statement
 stmt_step (Stmt-F.Assign target value) = Statement.Assign target.name (expr_meant value)
 stmt_step (Stmt-F.Call instance args) = Statement.Call instance.name (map arg_meant args)
@@ -86,17 +96,22 @@ stmt_step (Stmt-F.If cond body) = Statement.If (expr_meant cond) (statements bod
 stmt_step (Stmt-F.While cond body) = Statement.While (expr_meant cond) (statements body)
 stmt_step (Stmt-F.Case value as') = Statement.Case (expr_meant value) (arms as')
 
+-- a statement
 abbrev pub stmt_meant : Stmt → Statement
 stmt_meant = fold-Stmt Statement Labelled stmt_step arm_step
 
+-- a declaration
 abbrev pub decl_meant : Decl → Declaration
 decl_meant d = record { name = d.name.name; address = d.address; ty = d.ty.name; initial = option_map number_meant d.initial }
 
+-- a block of declarations
 abbrev pub block_meant : TextBlock → Block
 block_meant b = record { class = class_meant b.class; mark = mark_meant b.mark; declarations = map decl_meant b.decls }
 
+-- a POU
 abbrev pub pou_meant : PouText → tree.PouText
 pou_meant p = record { kind = kind_meant p.kind; name = p.name.name; blocks = map block_meant p.blocks; body = map stmt_meant p.body }
 
+-- what a unit means
 abbrev pub meant : unit.Unit → List tree.PouText
 meant u = map pou_meant u.pous

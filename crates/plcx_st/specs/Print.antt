@@ -14,23 +14,29 @@ pub record Shape : Type 0 where
   pub kind : TokenKind
   pub text : List ℕ
 
+-- a token of the kind with this text
 abbrev pub shape : TokenKind → List ℕ → Shape
 shape k text = record { kind = k; text = text }
 
+-- a keyword
 abbrev pub word : List ℕ → Shape
 word text = shape kind.Keyword text
 
+-- a sign
 abbrev pub sign : List ℕ → Shape
 sign text = shape kind.Sign text
 
+-- a name
 abbrev pub name : List ℕ → Shape
 name text = shape kind.Name text
 
+-- a literal, with the name of its type
 abbrev pub number : Value → Shape
 number v = shape kind.Number (literal.printed v)
 
 -- ---- what parts two tokens
 
+-- the kind of names
 abbrev pub is_name : TokenKind → Bool
 is_name kind.Name = true
 is_name kind.Keyword = false
@@ -39,6 +45,7 @@ is_name kind.Digits = false
 is_name kind.Address = false
 is_name kind.Sign = false
 
+-- the kind of the labels of a CASE
 abbrev pub are_digits : TokenKind → Bool
 are_digits kind.Digits = true
 are_digits kind.Keyword = false
@@ -47,30 +54,36 @@ are_digits kind.Number = false
 are_digits kind.Address = false
 are_digits kind.Sign = false
 
-abbrev pub is_one_of : List (List ℕ) → List ℕ → Bool
-is_one_of texts text = list_any (bytes_eq text) texts
+-- the text is one of these
+abbrev pub is_among : List (List ℕ) → List ℕ → Bool
+is_among texts text = list_any (bytes_eq text) texts
 
+-- signs behind which no space stands
 abbrev pub none_behind : List (List ℕ)
 none_behind = codes "(" ∷ codes "." ∷ []
 
+-- signs before which no space stands
 abbrev pub none_before : List (List ℕ)
 none_before = codes ";" ∷ codes "," ∷ codes ")" ∷ codes "." ∷ []
 
 -- no space parts the two: behind `(` and `.`, before `;` `,` `)` `.`, at the `(` of a call, at the `:` of a label
 unfoldable pub is_joined : Shape → Shape → Bool
-is_joined a b = is_one_of none_behind a.text || is_one_of none_before b.text || (if is_name a.kind then bytes_eq b.text (codes "(") else (if are_digits a.kind then bytes_eq b.text (codes ":") else false))
+is_joined a b = is_among none_behind a.text || is_among none_before b.text
+    || (if is_name a.kind then bytes_eq b.text (codes "(") else (if are_digits a.kind then bytes_eq b.text (codes ":") else false))
 
+-- what stands between two tokens: nothing or a space
 abbrev pub gap : Shape → Shape → List ℕ
 gap a b = if is_joined a b then [] else codes " "
 
 -- the text of tokens behind this one
-unfoldable pub behind : Shape → List Shape → List ℕ
-behind a [] = []
-behind a (b ∷ shapes) = gap a b ++ (b.text ++ behind b shapes)
+unfoldable pub text_behind : Shape → List Shape → List ℕ
+text_behind a [] = []
+text_behind a (b ∷ shapes) = gap a b ++ (b.text ++ text_behind b shapes)
 
+-- the text of tokens, with their gaps
 unfoldable pub joined : List Shape → List ℕ
 joined [] = []
-joined (a ∷ shapes) = a.text ++ behind a shapes
+joined (a ∷ shapes) = a.text ++ text_behind a shapes
 
 -- ---- expressions
 
@@ -95,6 +108,7 @@ level Mod = 6
 abbrev pub tightest : ℕ
 tightest = 7
 
+-- how an operator is written
 abbrev pub operator_shape : Operator → Shape
 operator_shape Or = word (codes "OR")
 operator_shape Xor = word (codes "XOR")
@@ -111,6 +125,7 @@ operator_shape Times = sign (codes "*")
 operator_shape Divide = sign (codes "/")
 operator_shape Mod = word (codes "MOD")
 
+-- tokens between brackets
 abbrev pub in_brackets : List Shape → List Shape
 in_brackets inner = sign (codes "(") ∷ (inner ++ sign (codes ")") ∷ [])
 
@@ -136,13 +151,16 @@ unfoldable mutual
   further_shapes no_expression = []
   further_shapes (expression e es) = sign (codes ",") ∷ (expression_shapes 0 e ++ further_shapes es)
 
+-- formal := value
 abbrev pub argument_shapes : Argument → List Shape
 argument_shapes a = name a.formal ∷ sign (codes ":=") ∷ expression_shapes 0 a.value
 
+-- further arguments, each behind a comma
 unfoldable pub further_arguments : List Argument → List Shape
 further_arguments [] = []
 further_arguments (a ∷ arguments) = sign (codes ",") ∷ (argument_shapes a ++ further_arguments arguments)
 
+-- arguments with commas between them
 unfoldable pub arguments_shapes : List Argument → List Shape
 arguments_shapes [] = []
 arguments_shapes (a ∷ arguments) = argument_shapes a ++ further_arguments arguments
@@ -154,6 +172,7 @@ pub record Line : Type 0 where
   pub indent : ℕ
   pub shapes : List Shape
 
+-- a line of these tokens
 abbrev pub line : ℕ → List Shape → Line
 line indent shapes = record { indent = indent; shapes = shapes }
 
@@ -161,6 +180,7 @@ line indent shapes = record { indent = indent; shapes = shapes }
 abbrev pub line_text : Line → List ℕ
 line_text l = replicate l.indent 32 ++ (joined l.shapes ++ 10 ∷ [])
 
+-- tokens and a semicolon
 abbrev pub ended : List Shape → List Shape
 ended shapes = shapes ++ sign (codes ";") ∷ []
 
@@ -168,6 +188,7 @@ ended shapes = shapes ++ sign (codes ";") ∷ []
 abbrev pub opening : List ℕ → Expression → List ℕ → List Shape
 opening first e last = word first ∷ (expression_shapes 0 e ++ word last ∷ [])
 
+-- a word and a semicolon
 abbrev pub closing : List ℕ → List Shape
 closing last = word last ∷ sign (codes ";") ∷ []
 
@@ -194,17 +215,21 @@ unfoldable mutual
 
 -- ---- declarations and POUs
 
+-- AT and the address, where there is one
 abbrev pub address_shapes : Option (List ℕ) → List Shape
 address_shapes None = []
 address_shapes (Some address) = word (codes "AT") ∷ shape kind.Address address ∷ []
 
+-- := and the literal, where there is one
 abbrev pub initial_shapes : Option Value → List Shape
 initial_shapes None = []
 initial_shapes (Some v) = sign (codes ":=") ∷ number v ∷ []
 
+-- a declaration has a line of its own
 abbrev pub declaration_line : Declaration → Line
 declaration_line d = line 2 (name d.name ∷ (address_shapes d.address ++ sign (codes ":") ∷ name d.ty ∷ ended (initial_shapes d.initial)))
 
+-- the heading of a block
 abbrev pub class_word : Class → List ℕ
 class_word Local = codes "VAR"
 class_word Input = codes "VAR_INPUT"
@@ -212,25 +237,31 @@ class_word Output = codes "VAR_OUTPUT"
 class_word InOut = codes "VAR_IN_OUT"
 class_word Temp = codes "VAR_TEMP"
 
+-- the mark behind a heading
 abbrev pub mark_shapes : Mark → List Shape
 mark_shapes Plain = []
 mark_shapes Constant = word (codes "CONSTANT") ∷ []
 mark_shapes Retain = word (codes "RETAIN") ∷ []
 
+-- a heading, the declarations and END_VAR
 abbrev pub block_lines : Block → List Line
 block_lines b = line 0 (word (class_word b.class) ∷ mark_shapes b.mark) ∷ (map declaration_line b.declarations ++ line 0 (word (codes "END_VAR") ∷ []) ∷ [])
 
+-- the first word of a POU
 abbrev pub pou_word : PouKind → List ℕ
 pou_word Program = codes "PROGRAM"
 pou_word FunctionBlock = codes "FUNCTION_BLOCK"
 
+-- the last word of a POU
 abbrev pub pou_end : PouKind → List ℕ
 pou_end Program = codes "END_PROGRAM"
 pou_end FunctionBlock = codes "END_FUNCTION_BLOCK"
 
+-- a heading, the blocks, the statements and the last word
 abbrev pub pou_lines : PouText → List Line
 pou_lines p = line 0 (word (pou_word p.kind) ∷ name p.name ∷ []) ∷ (flat_map block_lines p.blocks ++ (statements_lines 2 (statements p.body) ++ line 0 (word (pou_end p.kind) ∷ []) ∷ []))
 
+-- the POUs, one behind the other
 abbrev pub unit_lines : List PouText → List Line
 unit_lines unit = flat_map pou_lines unit
 

@@ -10,8 +10,9 @@ use Rattle.plcx_st.specs.declared.printing.Printer.{Printer}
 use Rattle.plcx_meaning.specs.Tree.{Statement}
 use Rattle.plcx_st.specs.declared.tree.Arm.{Arm}
 use Rattle.plcx_st.specs.Meant.{stmt_meant}
-use Rattle.plcx_st.specs.Print.{Shape, is_one_of, none_behind, none_before, Line, line_text}
+use Rattle.plcx_st.specs.Print.{Shape, is_among, none_behind, none_before, Line, line_text}
 
+-- what a token of the kind is to the one behind it
 abbrev pub last_kind : TokenKind → Last
 last_kind kind.Name = last.Name
 last_kind kind.Digits = last.Digits
@@ -22,21 +23,22 @@ last_kind kind.Sign = last.Other
 
 -- what a token is to the one behind it
 unfoldable pub last_of : Shape → Last
-last_of a = if is_one_of none_behind a.text then last.Opening else last_kind a.kind
+last_of a = if is_among none_behind a.text then last.Opening else last_kind a.kind
 
 -- no space comes before the text
 unfoldable pub joins : Last → List ℕ → Bool
 joins last.Nothing text = true
 joins last.Opening text = true
-joins last.Name text = is_one_of none_before text || bytes_eq text (codes "(")
-joins last.Digits text = is_one_of none_before text || bytes_eq text (codes ":")
-joins last.Other text = is_one_of none_before text
+joins last.Name text = is_among none_before text || bytes_eq text (codes "(")
+joins last.Digits text = is_among none_before text || bytes_eq text (codes ":")
+joins last.Other text = is_among none_before text
 
 -- the text of tokens behind what was printed last
 unfoldable pub text_after : Last → List Shape → List ℕ
 text_after l [] = []
 text_after l (b ∷ shapes) = (if joins l b.text then [] else codes " ") ++ (b.text ++ text_after (last_of b) shapes)
 
+-- how the last line ends behind these tokens
 unfoldable pub last_after : Last → List Shape → Last
 last_after l [] = l
 last_after l (b ∷ shapes) = last_after (last_of b) shapes

@@ -4,17 +4,13 @@
 mod law;
 mod printing;
 mod range;
-mod terminal;
 mod tree;
 
 pub use law::read_again;
+pub use plcx_lex::Terminal;
 pub use printing::print;
 pub use range::texts_are_in_range;
-pub use terminal::{SIGNS, Terminal, WORDS};
 pub use tree::{
     Arg, Arm, Decl, Expr, Mark, Number, Op, PouText, Stmt, TextBlock, TextClass, TextKind, Unit,
     Word,
 };
-
-#[cfg(test)]
-mod tests;

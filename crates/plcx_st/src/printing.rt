@@ -1,11 +1,8 @@
 //! The printed form of a unit, written token by token into one buffer.
-ghost use Rattle.std.specs.Prelude.{◌≡◌, [], ◌∷◌, ◌++◌, ◌+◌, IfOk, OnOk, map, codes, replicate, string_bytes};
+ghost use Rattle.std.specs.Prelude.{◌≡◌, [], ◌∷◌, ◌++◌, ◌+◌, IfOk, OnOk, map, codes, replicate};
 ghost use Rattle.std.specs.Option.{option_map};
 ghost use Rattle.std.specs.List.{flat_map};
 ghost use Rattle.plcx_lex.specs.declared.token.TokenKind.TheVariants as kind;
-ghost use Rattle.plcx_types.specs.Literal.{value};
-ghost use Rattle.plcx_types.specs.Printed as literal;
-ghost use Rattle.plcx_types.specs.TypeName as names;
 ghost use Rattle.plcx_meaning.specs.Tree as tree;
 ghost use Rattle.plcx_st.specs.declared.printing.Last.TheVariants.{Nothing};
 ghost use Rattle.plcx_st.specs.Meant.{number_meant, op_meant, expr_meant, arg_meant, stmt_meant, decl_meant, class_meant, mark_meant, block_meant, kind_meant, pou_meant, meant};
@@ -17,7 +14,7 @@ use crate::tree::{
     Word,
 };
 use plcx_lex::TokenKind;
-use plcx_types::{NoMemory, Ty};
+use plcx_types::{NoMemory, number_text};
 use sqlite_items::Items;
 use std::alloc::Global;
 
@@ -66,44 +63,6 @@ fn last_of(kind: TokenKind, text: &[u8]) -> Last
         TokenKind::Digits => Last::Digits,
         _ => Last::Other,
     }
-}
-
-fn type_name(ty: Ty) -> &'static str
-    ensures { result.now ≡ names.type_name ty }
-{
-    match ty {
-        Ty::Bool => "BOOL",
-        Ty::Byte => "BYTE",
-        Ty::Word => "WORD",
-        Ty::Dword => "DWORD",
-        Ty::Lword => "LWORD",
-        Ty::Sint => "SINT",
-        Ty::Int => "INT",
-        Ty::Dint => "DINT",
-        Ty::Lint => "LINT",
-        Ty::Usint => "USINT",
-        Ty::Uint => "UINT",
-        Ty::Udint => "UDINT",
-        Ty::Ulint => "ULINT",
-        Ty::Time => "TIME",
-    }
-}
-
-fn truth_word(n: i128) -> &'static str
-    ensures { result.now ≡ literal.truth_word n }
-{
-    if n == 0 { "FALSE" } else { "TRUE" }
-}
-
-fn number_text(alloc: Global, ty: Ty, n: i128) -> Result<String, NoMemory>
-    ensures { IfOk result (λ text. string_bytes text ≡ literal.printed (value ty n)) }
-{
-    let text = match ty {
-        Ty::Bool => String::from_str(alloc, truth_word(n))?,
-        Ty::Time => format!(in alloc; "T#{n}ms")?,
-        _ => format!(in alloc; "{}#{n}", type_name(ty))?,
-    };
-    Ok(text)
 }
 
 fn level(op: Op) -> u8

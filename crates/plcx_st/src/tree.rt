@@ -1,3 +1,4 @@
+//! The tree of a text. Names, numbers, NOT and labels keep the places of their tokens.
 use plcx_types::{Ident, Span, Ty};
 use sqlite_items::{Boxed, Items};
 

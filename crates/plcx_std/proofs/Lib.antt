@@ -1,3 +1,4 @@
+pub mod KindNames
 pub mod Edges
 pub mod Latches
 pub mod Counts

@@ -134,23 +134,41 @@ abbrev pub tof_shows : List TimerCall → Shown
 tof_shows [] = record { output = false; elapsed = pos 0 }
 tof_shows (c ∷ earlier) = if c.input then record { output = true; elapsed = pos 0 } else if list_any (λ d. d.input) earlier then shown_after c.time (last_run (λ d. not d.input) (c ∷ earlier)) else record { output = false; elapsed = pos 0 }
 
--- the time since a start is below the limit at each of some calls
+-- at each of some calls, the time since a start is below the call's limit
 abbrev pub all_within : ℤ → List TimerCall → Bool
 all_within start calls = list_all (λ d. int_lt (d.time -ℤ start) (limit d.preset)) calls
 
--- a pulse starts at a call where IN is TRUE and was not at the call before, the limit is above 0, and no earlier pulse is open
+-- a pulse starts at a call
 abbrev pub starts : TimerCall → Bool → Option ℤ → Bool
-starts c rises earlier_pulse = rises && (int_lt (pos 0) (limit c.preset) && is_none earlier_pulse)
+starts c rises open_before =
+    -- IN is TRUE at the call and was not at the one before
+    rises
+    -- its limit is above 0
+    && (int_lt (pos 0) (limit c.preset)
+    -- no earlier pulse is open at it
+    && is_none open_before)
 
--- the start of the pulse that starts at one of some calls and is open at all that follow them: there the time since its start is below the limit, at each
+-- the start of the pulse that is open after some calls, if there is one; the search goes back, and `following` are the calls behind those that are left
 abbrev pub open_pulse : List TimerCall → List TimerCall → Option ℤ
 open_pulse following [] = None
-open_pulse following (c ∷ earlier) = if starts c (rose (λ d. d.input) (c ∷ earlier)) (open_pulse (c ∷ []) earlier) && all_within c.time following then Some c.time else open_pulse (following ++ (c ∷ [])) earlier
+open_pulse following (c ∷ earlier) =
+    let open_before = open_pulse (c ∷ []) earlier in
+    let rises = rose (λ d. d.input) (c ∷ earlier) in
+    if starts c rises open_before && all_within c.time following
+    then Some c.time
+    else open_pulse (following ++ (c ∷ [])) earlier
 
--- ET with no pulse: the limit at the first call after the latest pulse, if IN is TRUE at every call from the one before that on, and else 0
+-- IN is TRUE at a call, at all that follow it, and at the call before it
+abbrev pub stays_on : List TimerCall → TimerCall → List TimerCall → Bool
+stays_on following c earlier = list_all (λ d. d.input) (following ++ (c ∷ [])) && was (λ d. d.input) earlier
+
+-- ET while no pulse is open: the limit at the call that ended the latest pulse, as long as IN stays TRUE, and else 0
 abbrev pub after_pulse : List TimerCall → List TimerCall → ℤ
 after_pulse following [] = pos 0
-after_pulse following (c ∷ earlier) = if is_some (open_pulse [] earlier) then (if list_all (λ d. d.input) (following ++ (c ∷ [])) && was (λ d. d.input) earlier then limit c.preset else pos 0) else after_pulse (following ++ (c ∷ [])) earlier
+after_pulse following (c ∷ earlier) =
+    let ends_a_pulse = is_some (open_pulse [] earlier) in
+    let held = if stays_on following c earlier then limit c.preset else pos 0 in
+    if ends_a_pulse then held else after_pulse (following ++ (c ∷ [])) earlier
 
 -- what a TP shows at a time within a pulse of that start, or with no pulse
 abbrev pub shown_of_pulse : ℤ → Option ℤ → ℤ → Shown

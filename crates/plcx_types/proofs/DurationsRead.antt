@@ -12,7 +12,7 @@ use Rattle.plcx_types.specs.Numeral.{is_digit}
 use Rattle.plcx_types.specs.Duration.{letters_of, milliseconds_of, units, number, AreParts, skip, last, point, more, apart, IsTime, ahead}
 use Rattle.plcx_types.specs.Duration as duration
 use Rattle.plcx_types.specs.Reading.{behind, front, back, is_letter, Part, with_point, part_at, count, exact, last_part, with_others, behind_gap, is_nil, parts, time}
-use Rattle.plcx_types.proofs.Behind.{behind_is}
+use Rattle.plcx_types.proofs.BehindWord.{behind_is}
 use Rattle.plcx_types.proofs.PartShape.{front_passes, front_back, Counts, count_is}
 use Rattle.plcx_types.proofs.Wholes.{chosen, mapped}
 

@@ -1,13 +1,15 @@
 pub mod Folding
 pub mod Parts
-pub mod Behind
+pub mod BehindWord
 pub mod Splitting
-pub mod Bounds
+pub mod NumberBounds
 pub mod Numerals
 pub mod Wholes
 pub mod PartShape
 pub mod Durations
 pub mod DurationsRead
 pub mod TypeTable
+pub mod Conversions
+pub mod Addresses
 pub mod Literals
 pub mod Printing

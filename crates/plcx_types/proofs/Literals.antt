@@ -2,7 +2,8 @@
 use Rattle.std.proofs.Common.{◌≡◌, ◌⊎◌, ℕ, ℤ, pos, Bool, true, false, cond, inl, inr, List, [], ◌∷◌, ◌++◌, Option, Some, None, refl, ap, sym, ◌∙◌, subst}
 use Rattle.std.specs.Prelude.{codes}
 use Rattle.std.specs.List.{list_any}
-use Rattle.std.specs.Option.{option_map}
+use Rattle.std.specs.Option.{option_map, option_and_then, ok_or}
+use Rattle.std.specs.Result.{IfErr}
 use Rattle.std.specs.Str.{bytes_eq}
 use Rattle.std.proofs.lemmas.Bool.{cases_Bool, both_ways, false_from_ne_true}
 use Rattle.std.proofs.lemmas.Slice.Eq.{bytes_eq-Decides}
@@ -10,19 +11,21 @@ use Rattle.plcx_types.specs.declared.ty.Ty.{Ty}
 use Rattle.plcx_types.specs.declared.ty.Ty.TheVariants as ty
 use Rattle.plcx_types.specs.declared.literal.Literal.{Literal}
 use Rattle.plcx_types.specs.declared.literal.Literal.TheVariants.{Typed, Whole}
+use Rattle.plcx_types.specs.Name.{in_lower_case}
 use Rattle.plcx_types.specs.Range.{InRange}
+use Rattle.plcx_types.specs.Value.{Value}
 use Rattle.plcx_types.specs.TypeName.{same_ty, all_types}
-use Rattle.plcx_types.specs.Numeral.{are_digits, IsWhole, plain, plus, minus, binary, octal, hexadecimal}
+use Rattle.plcx_types.specs.Numeral.{are_digits, IsWholeNumber, plain, plus, minus, binary, octal, hexadecimal}
 use Rattle.plcx_types.specs.Duration.{IsTime}
-use Rattle.plcx_types.specs.Literal.{value, type_word, IsTruth, IsNumber, IsForm, short_time}
+use Rattle.plcx_types.specs.Literal.{value, type_word, IsTruth, IsNumber, IsForm, short_time, StandsForValue, IsValueOf}
 use Rattle.plcx_types.specs.Literal as form
 use Rattle.plcx_types.specs.Reading.{behind, choose, whole}
-use Rattle.plcx_types.specs.ReadLiteral.{is_within, truth, or_else, number_behind, of_type, typed, behind_name, typed_or_whole, timed_or_other, truth_or, literal_of}
-use Rattle.plcx_types.proofs.Behind.{behind_is}
+use Rattle.plcx_types.specs.ReadLiteral.{is_within, truth, or_else, number_behind, of_type, typed, behind_name, typed_or_whole, timed_or_other, truth_or, literal_of, as_value, value_of}
+use Rattle.plcx_types.proofs.BehindWord.{behind_is}
 use Rattle.plcx_types.proofs.Wholes.{chosen, mapped, is_foreign, behind_foreign, whole_reads, whole_is}
 use Rattle.plcx_types.proofs.Durations.{time_reads}
 use Rattle.plcx_types.proofs.DurationsRead.{bound, time_is}
-use Rattle.plcx_types.proofs.TypeTable.{same_is, within_range, range_within}
+use Rattle.plcx_types.proofs.TypeTable.{same_is, same_refl, within_range, range_within}
 
 word_foreign : (t : Ty) → list_any is_foreign (type_word t) ≡ true
 word_foreign ty.Bool = refl
@@ -44,7 +47,7 @@ word_foreign ty.Time = refl
 no_word : (word text : List ℕ) → are_digits 10 false word ≡ false → are_digits 10 false text ≡ true → bytes_eq text word ≡ false
 no_word word text other digits = false_from_ne_true _ (λ h. both_ways (are_digits 10 false word) other (subst (λ t. are_digits 10 false t ≡ true) ((bytes_eq-Decides text word).0 h) digits))
 
-no_truth : (text : List ℕ) (n : ℤ) → IsWhole text n → truth text ≡ None
+no_truth : (text : List ℕ) (n : ℤ) → IsWholeNumber text n → truth text ≡ None
 no_truth text n (plain {text = digits} is) = rw (no_word (codes "true") digits refl is.digits, no_word (codes "false") digits refl is.digits)
 no_truth text n (plus is) = refl
 no_truth text n (minus is) = refl
@@ -91,7 +94,7 @@ unfolding typed_or_whole
 no_name [] text digits = refl
 no_name (t ∷ ts) text digits = rw (behind_foreign (type_word t) text false (word_foreign t) digits) (no_name ts text digits)
 
-whole_found : (text : List ℕ) (n : ℤ) → IsWhole text n → literal_of text ≡ option_map Whole (whole text)
+whole_found : (text : List ℕ) (n : ℤ) → IsWholeNumber text n → literal_of text ≡ option_map Whole (whole text)
 unfolding literal_of timed_or_other typed_or_whole
 whole_found text n (plain {text = digits} {n = m} is) =
     ap (λ r. truth_or r (timed_or_other digits)) (no_truth digits (pos m) (plain is))
@@ -206,3 +209,39 @@ literal_is text l found = go (truth text) refl found
 -- a text stands for one literal at most
 pub one_form : (text : List ℕ) (k l : Literal) → IsForm text k → IsForm text l → k ≡ l
 one_form text k l first second = let both : Some k ≡ Some l = sym (literal_reads text k first) ∙ literal_reads text l second in cc
+
+-- a literal as a value of a type
+same_value : (t : Ty) (v w : Value) → (v.ty ≡ t) × (w ≡ v) → as_value t (Typed v) ≡ Some w
+unfolding as_value
+same_value t v w is = let same : same_ty v.ty t ≡ true = subst (λ u. same_ty v.ty u ≡ true) is.0 (same_refl v.ty) in rw same (ap Some (sym is.1))
+
+pub as_value_reads : (t : Ty) (l : Literal) (v : Value) → IsValueOf t l v → as_value t l ≡ Some v
+unfolding as_value
+as_value_reads t (Typed w) v is = same_value t w v is
+as_value_reads t (Whole n) v is = rw (is.0, range_within t n is.1) (ap Some (sym is.2))
+
+pub as_value_is : (t : Ty) (l : Literal) (v : Value) → as_value t l ≡ Some v → IsValueOf t l v
+unfolding as_value
+as_value_is t (Typed w) v found = elim (cases_Bool (same_ty w.ty t)) [
+  | inl same ↦ (same_is w.ty t same, (let one : Some w ≡ Some v = rw same at found in cc))
+  | inr other ↦ absurd (let none = rw other at found in cc)
+]
+as_value_is t (Whole n) v found = elim (cases_Bool (same_ty t ty.Time)) [
+  | inl timed ↦ absurd (let none = rw timed at found in cc)
+  | inr other ↦ elim (cases_Bool (is_within t n)) [
+    | inl within ↦ (other, within_range t n within, (let one : Some (value t n) ≡ Some v = rw (other, within) at found in cc))
+    | inr outside ↦ absurd (let none = rw (other, outside) at found in cc)
+  ]
+]
+
+pub value_reads : (t : Ty) (text : List ℕ) (v : Value) → StandsForValue t text v → value_of t text ≡ Some v
+value_reads t text v is = ap (option_and_then (as_value t)) (literal_reads (in_lower_case text) is.0 is.1) ∙ as_value_reads t is.0 v is.2
+
+pub value_is : (t : Ty) (text : List ℕ) (v : Value) → value_of t text ≡ Some v → StandsForValue t text v
+value_is t text v found =
+    let one = bound (as_value t) (literal_of (in_lower_case text)) v found in
+    (one.0, literal_is (in_lower_case text) one.0 one.1, as_value_is t one.0 v one.2)
+
+pub no_value : {E : Type 0} (t : Ty) (text : List ℕ) (found : Option Value) (err : E) → found ≡ value_of t text → IfErr (ok_or found err) (λ x. (v : Value) → StandsForValue t text v → ⊥)
+no_value t text None err is = λ v stands. absurd (let both : None ≡ Some v = is ∙ value_reads t text v stands in cc)
+no_value t text (Some w) err is = tt

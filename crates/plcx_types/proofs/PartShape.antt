@@ -8,7 +8,7 @@ use Rattle.plcx_types.specs.declared.duration.TimeUnit.TheVariants as unit
 use Rattle.plcx_types.specs.Numeral.{is_digit, are_digits, IsNumeral}
 use Rattle.plcx_types.specs.Duration.{letters_of, AreDigits, number}
 use Rattle.plcx_types.specs.Reading.{behind, front, back, is_letter, part_at, count}
-use Rattle.plcx_types.proofs.Bounds.{number_small}
+use Rattle.plcx_types.proofs.NumberBounds.{number_small}
 use Rattle.plcx_types.proofs.Numerals.{numeral_reads, numeral_is}
 
 -- a text whose first byte fails a test, or that has none

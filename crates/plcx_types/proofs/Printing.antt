@@ -16,14 +16,14 @@ use Rattle.plcx_types.specs.declared.duration.TimeUnit.TheVariants as unit
 use Rattle.plcx_types.specs.declared.ty.Ty.{Ty}
 use Rattle.plcx_types.specs.declared.ty.Ty.TheVariants as ty
 use Rattle.plcx_types.specs.declared.literal.Literal.TheVariants.{Typed}
-use Rattle.plcx_types.specs.Name.{folded}
+use Rattle.plcx_types.specs.Name.{in_lower_case}
 use Rattle.plcx_types.specs.Range.{InRange}
 use Rattle.plcx_types.specs.TypeName.{same_ty, type_name}
 use Rattle.plcx_types.specs.Value.{Value}
-use Rattle.plcx_types.specs.Numeral.{is_digit, digit_value, number_from, IsNumeral, IsWhole, plain, minus}
+use Rattle.plcx_types.specs.Numeral.{is_digit, digit_value, number_from, IsNumeral, IsWholeNumber, plain, minus}
 use Rattle.plcx_types.specs.Duration.{AreDigits, AreParts, skip, last, units, number, IsTime, ahead}
 use Rattle.plcx_types.specs.Duration as duration
-use Rattle.plcx_types.specs.Literal.{value, type_word, IsForm, typed, short_time, StandsFor, StandsForValue, IsValueOf}
+use Rattle.plcx_types.specs.Literal.{value, type_word, IsForm, typed, short_time, StandsForLiteral, StandsForValue, IsValueOf}
 use Rattle.plcx_types.specs.Literal as form
 use Rattle.plcx_types.specs.Printed.{printed, truth_word}
 use Rattle.plcx_types.proofs.PartShape.{are_numeral}
@@ -46,7 +46,7 @@ same_number n (c ∷ cs) h = rw (one_digit c h.0, same_value c h.0) (same_number
 lower_digit : (c : ℕ) → is_digit 10 c ≡ true → to_ascii_lowercase c ≡ c
 lower_digit c h = grind (arith, nat_tests)
 
-folded_digits : (ds : List ℕ) → list_all (is_digit 10) ds ≡ true → folded ds ≡ ds
+folded_digits : (ds : List ℕ) → list_all (is_digit 10) ds ≡ true → in_lower_case ds ≡ ds
 folded_digits [] h = refl
 folded_digits (c ∷ cs) h =
     let parts = and_parts (is_digit 10 c) (list_all (is_digit 10) cs) h in
@@ -75,11 +75,11 @@ abbrev IsSmall : ℤ → Type 0
 IsSmall (pos n) = n < 10 ^ 20
 IsSmall (negsuc n) = suc n < 10 ^ 20
 
-signed_whole : (n : ℤ) → IsSmall n → IsWhole (signed_decimal n) n
+signed_whole : (n : ℤ) → IsSmall n → IsWholeNumber (signed_decimal n) n
 signed_whole (pos n) small = plain (decimal_numeral n small)
 signed_whole (negsuc n) small = minus (decimal_numeral (suc n) small)
 
-folded_signed : (n : ℤ) → IsSmall n → folded (signed_decimal n) ≡ signed_decimal n
+folded_signed : (n : ℤ) → IsSmall n → in_lower_case (signed_decimal n) ≡ signed_decimal n
 folded_signed (pos n) small = folded_digits (decimal n) (is_decimal n small).are.all
 folded_signed (negsuc n) small = ap (λ ds. 45 ∷ ds) (folded_digits (decimal (suc n)) (is_decimal (suc n) small).are.all)
 
@@ -123,7 +123,7 @@ range_small ty.Time (pos n) h = omega (arith, ints, h.1)
 range_small ty.Time (negsuc n) h = omega (arith, ints, h.0)
 
 -- a name in lower case
-lower_name : (t : Ty) (rest : List ℕ) → folded (type_name t ++ (codes "#" ++ rest)) ≡ type_word t ++ (codes "#" ++ folded rest)
+lower_name : (t : Ty) (rest : List ℕ) → in_lower_case (type_name t ++ (codes "#" ++ rest)) ≡ type_word t ++ (codes "#" ++ in_lower_case rest)
 lower_name ty.Bool rest = refl
 lower_name ty.Byte rest = refl
 lower_name ty.Word rest = refl
@@ -139,25 +139,25 @@ lower_name ty.Udint rest = refl
 lower_name ty.Ulint rest = refl
 lower_name ty.Time rest = refl
 
-named_stands : (t : Ty) (n : ℤ) → same_ty t ty.Time ≡ false → InRange t n → IsForm (folded (type_name t ++ (codes "#" ++ signed_decimal n))) (Typed (value t n))
+named_stands : (t : Ty) (n : ℤ) → same_ty t ty.Time ≡ false → InRange t n → IsForm (in_lower_case (type_name t ++ (codes "#" ++ signed_decimal n))) (Typed (value t n))
 named_stands t n other range =
     let small = range_small t n range in
-    let lower : folded (type_name t ++ (codes "#" ++ signed_decimal n)) ≡ type_word t ++ (codes "#" ++ signed_decimal n) = lower_name t (signed_decimal n) ∙ ap (λ ds. type_word t ++ (codes "#" ++ ds)) (folded_signed n small) in
+    let lower : in_lower_case (type_name t ++ (codes "#" ++ signed_decimal n)) ≡ type_word t ++ (codes "#" ++ signed_decimal n) = lower_name t (signed_decimal n) ∙ ap (λ ds. type_word t ++ (codes "#" ++ ds)) (folded_signed n small) in
     subst (λ text. IsForm text (Typed (value t n))) (sym lower) (typed (form.IsNumber.whole other (signed_whole n small)) range)
 
-timed_stands : (n : ℤ) → InRange ty.Time n → IsForm (folded (codes "T#" ++ (signed_decimal n ++ codes "ms"))) (Typed (value ty.Time n))
+timed_stands : (n : ℤ) → InRange ty.Time n → IsForm (in_lower_case (codes "T#" ++ (signed_decimal n ++ codes "ms"))) (Typed (value ty.Time n))
 timed_stands n range =
     let small = range_small ty.Time n range in
-    let lower : folded (codes "T#" ++ (signed_decimal n ++ codes "ms")) ≡ codes "t#" ++ (signed_decimal n ++ codes "ms") = ap (λ ds. codes "t#" ++ ds) (map-append to_ascii_lowercase (signed_decimal n) (codes "ms") ∙ ap (λ ds. ds ++ codes "ms") (folded_signed n small)) in
+    let lower : in_lower_case (codes "T#" ++ (signed_decimal n ++ codes "ms")) ≡ codes "t#" ++ (signed_decimal n ++ codes "ms") = ap (λ ds. codes "t#" ++ ds) (map-append to_ascii_lowercase (signed_decimal n) (codes "ms") ∙ ap (λ ds. ds ++ codes "ms") (folded_signed n small)) in
     subst (λ text. IsForm text (Typed (value ty.Time n))) (sym lower) (short_time (signed_time n small) range)
 
-truth_stands : (n : ℤ) → InRange ty.Bool n → IsForm (folded (truth_word n)) (Typed (value ty.Bool n))
+truth_stands : (n : ℤ) → InRange ty.Bool n → IsForm (in_lower_case (truth_word n)) (Typed (value ty.Bool n))
 truth_stands (pos zero) range = form.IsForm.truth form.falsehood
 truth_stands (pos (suc zero)) range = form.IsForm.truth form.IsTruth.truth
 truth_stands (pos (suc (suc n))) range = absurd (omega (arith, ints, range.1))
 truth_stands (negsuc n) range = absurd (omega (arith, ints, range.0))
 
-value_stands : (t : Ty) (n : ℤ) → InRange t n → StandsFor (printed (value t n)) (Typed (value t n))
+value_stands : (t : Ty) (n : ℤ) → InRange t n → StandsForLiteral (printed (value t n)) (Typed (value t n))
 value_stands ty.Bool n range = truth_stands n range
 value_stands ty.Time n range = timed_stands n range
 value_stands ty.Byte n range = named_stands ty.Byte n refl range
@@ -173,7 +173,7 @@ value_stands ty.Uint n range = named_stands ty.Uint n refl range
 value_stands ty.Udint n range = named_stands ty.Udint n refl range
 value_stands ty.Ulint n range = named_stands ty.Ulint n refl range
 
-pub printed_stands : (v : Value) → InRange v.ty v.n → StandsFor (printed v) (Typed v)
+pub printed_stands : (v : Value) → InRange v.ty v.n → StandsForLiteral (printed v) (Typed v)
 printed_stands v range = value_stands v.ty v.n range
 
 pub printed_again : (v : Value) → InRange v.ty v.n → StandsForValue v.ty (printed v) v
@@ -181,6 +181,6 @@ printed_again v range = (Typed v, printed_stands v range, (refl, refl))
 
 pub printed_once : (v w : Value) → InRange v.ty v.n → StandsForValue v.ty (printed v) w → w ≡ v
 printed_once v w range is =
-    let same : is.0 ≡ Typed v = one_form (folded (printed v)) is.0 (Typed v) is.1 (printed_stands v range) in
+    let same : is.0 ≡ Typed v = one_form (in_lower_case (printed v)) is.0 (Typed v) is.1 (printed_stands v range) in
     let own : IsValueOf v.ty (Typed v) w = subst (λ l. IsValueOf v.ty l w) same is.2 in
     own.1

@@ -1,16 +1,15 @@
 -- The table of types.
-use Rattle.std.proofs.Common.{◌≡◌, ℤ, Bool, true, false, T, Some, refl, ap, sym, ◌∙◌, subst}
-use Rattle.std.specs.Prelude.{slice_index_or}
+use Rattle.std.proofs.Common.{◌≡◌, ℤ, Bool, true, false, T, Some, get_or, ◌<◌, lit<, refl, ap, sym, ◌∙◌, subst}
 use Rattle.std.specs.Int.Signed.{le_z, le_z_yes}
 use Rattle.std.proofs.lemmas.Bool.{eqb-true, eq-eqb, and_parts, and_from}
 use Rattle.plcx_types.specs.declared.ty.Ty.{Ty}
 use Rattle.plcx_types.specs.declared.ty.Ty.TheVariants as ty
 use Rattle.plcx_types.specs.Range.{InRange, bounds_of}
-use Rattle.plcx_types.specs.TypeName.{all_types, place_of_type, same_ty, type_name, type_named}
+use Rattle.plcx_types.specs.TypeName.{all_types, position_of_type, same_ty, type_name, type_named}
 use Rattle.plcx_types.specs.ReadLiteral.{is_within}
 
 -- each type stands at its place
-at_its_place : (t : Ty) → slice_index_or all_types (place_of_type t) ty.Bool ≡ t
+pub at_its_place : (t : Ty) → get_or all_types (position_of_type t) ty.Bool ≡ t
 at_its_place ty.Bool = refl
 at_its_place ty.Byte = refl
 at_its_place ty.Word = refl
@@ -26,11 +25,27 @@ at_its_place ty.Udint = refl
 at_its_place ty.Ulint = refl
 at_its_place ty.Time = refl
 
+pub position_below : (t : Ty) → position_of_type t < 14
+position_below ty.Bool = lit< tt
+position_below ty.Byte = lit< tt
+position_below ty.Word = lit< tt
+position_below ty.Dword = lit< tt
+position_below ty.Lword = lit< tt
+position_below ty.Sint = lit< tt
+position_below ty.Int = lit< tt
+position_below ty.Dint = lit< tt
+position_below ty.Lint = lit< tt
+position_below ty.Usint = lit< tt
+position_below ty.Uint = lit< tt
+position_below ty.Udint = lit< tt
+position_below ty.Ulint = lit< tt
+position_below ty.Time = lit< tt
+
 pub same_is : (t u : Ty) → same_ty t u ≡ true → t ≡ u
-same_is t u h = sym (at_its_place t) ∙ ap (λ i. slice_index_or all_types i ty.Bool) (eqb-true (place_of_type t) (place_of_type u) h) ∙ at_its_place u
+same_is t u h = sym (at_its_place t) ∙ ap (λ i. get_or all_types i ty.Bool) (eqb-true (position_of_type t) (position_of_type u) h) ∙ at_its_place u
 
 pub same_refl : (t : Ty) → same_ty t t ≡ true
-same_refl t = eq-eqb (place_of_type t) (place_of_type t) refl
+same_refl t = eq-eqb (position_of_type t) (position_of_type t) refl
 
 held : (b : Bool) → T b → b ≡ true
 held true h = refl

@@ -4,9 +4,9 @@ use Rattle.std.specs.Prelude.{codes}
 use Rattle.std.specs.List.{list_any}
 use Rattle.std.specs.Option.{option_map}
 use Rattle.std.proofs.lemmas.Bool.{cases_Bool, and_parts, eqb-true}
-use Rattle.plcx_types.specs.Numeral.{is_digit, are_digits, IsNumeral, IsWhole, plain, plus, minus, binary, octal, hexadecimal}
+use Rattle.plcx_types.specs.Numeral.{is_digit, are_digits, IsNumeral, IsWholeNumber, plain, plus, minus, binary, octal, hexadecimal}
 use Rattle.plcx_types.specs.Reading.{behind, choose, numeral, positive, negative, unsigned_whole, whole}
-use Rattle.plcx_types.proofs.Behind.{behind_is}
+use Rattle.plcx_types.proofs.BehindWord.{behind_is}
 use Rattle.plcx_types.proofs.Numerals.{numeral_reads, numeral_is}
 
 -- which way a choice went
@@ -52,7 +52,7 @@ behind_foreign (w ∷ ws) (b ∷ bs) seen foreign digits = elim (cases_Bool (nat
   | inr apart ↦ rw apart
 ]
 
-pub whole_reads : (text : List ℕ) (n : ℤ) → IsWhole text n → whole text ≡ Some n
+pub whole_reads : (text : List ℕ) (n : ℤ) → IsWholeNumber text n → whole text ≡ Some n
 unfolding whole unsigned_whole
 whole_reads text n (plain {text = digits} {n = m} is) =
     rw (behind_foreign (codes "+") digits false refl is.digits, behind_foreign (codes "-") digits false refl is.digits, behind_foreign (codes "2#") digits false refl is.digits, behind_foreign (codes "8#") digits false refl is.digits, behind_foreign (codes "16#") digits false refl is.digits)
@@ -64,12 +64,12 @@ whole_reads text n (octal {text = digits} {n = m} is) = ap (option_map pos) (num
 whole_reads text n (hexadecimal {text = digits} {n = m} is) = ap (option_map pos) (numeral_reads 16 digits m (omega arith) is)
 
 -- what is read behind a word
-read_behind : (word text rest : List ℕ) (base : ℕ) (n : ℤ) → text ≡ word ++ rest → ((m : ℕ) → IsNumeral base rest m → IsWhole (word ++ rest) (pos m)) → positive base rest ≡ Some n → IsWhole text n
+read_behind : (word text rest : List ℕ) (base : ℕ) (n : ℤ) → text ≡ word ++ rest → ((m : ℕ) → IsNumeral base rest m → IsWholeNumber (word ++ rest) (pos m)) → positive base rest ≡ Some n → IsWholeNumber text n
 read_behind word text rest base n is form found =
     let one = mapped pos (numeral base rest) n found in
-    subst (λ t. IsWhole t n) (sym is) (subst (λ k. IsWhole (word ++ rest) k) one.2 (form one.0 (numeral_is base rest one.0 one.1)))
+    subst (λ t. IsWholeNumber t n) (sym is) (subst (λ k. IsWholeNumber (word ++ rest) k) one.2 (form one.0 (numeral_is base rest one.0 one.1)))
 
-unsigned_is : (text : List ℕ) (n : ℤ) → unsigned_whole text ≡ Some n → IsWhole text n
+unsigned_is : (text : List ℕ) (n : ℤ) → unsigned_whole text ≡ Some n → IsWholeNumber text n
 unfolding unsigned_whole
 unsigned_is text n found = elim (chosen (codes "2#") text (positive 2) _ n found) [
   | inl two ↦ read_behind (codes "2#") text two.0 2 n two.1 (λ m is. binary is) two.2
@@ -82,14 +82,14 @@ unsigned_is text n found = elim (chosen (codes "2#") text (positive 2) _ n found
   ]
 ]
 
-pub whole_is : (text : List ℕ) (n : ℤ) → whole text ≡ Some n → IsWhole text n
+pub whole_is : (text : List ℕ) (n : ℤ) → whole text ≡ Some n → IsWholeNumber text n
 unfolding whole
 whole_is text n found = elim (chosen (codes "+") text (positive 10) _ n found) [
   | inl up ↦ read_behind (codes "+") text up.0 10 n up.1 (λ m is. plus is) up.2
   | inr rest ↦ elim (chosen (codes "-") text negative _ n rest.1) [
     | inl down ↦
         let one = mapped (λ k. neg_ℤ (pos k)) (numeral 10 down.0) n down.2 in
-        subst (λ t. IsWhole t n) (sym down.1) (subst (λ k. IsWhole (codes "-" ++ down.0) k) one.2 (minus (numeral_is 10 down.0 one.0 one.1)))
+        subst (λ t. IsWholeNumber t n) (sym down.1) (subst (λ k. IsWholeNumber (codes "-" ++ down.0) k) one.2 (minus (numeral_is 10 down.0 one.0 one.1)))
     | inr rest ↦ unsigned_is text n rest.1
   ]
 ]

@@ -1,12 +1,19 @@
+pub mod Limits
 pub mod Name
 pub mod IdentError
-pub mod Reserved
+pub mod ElementaryTypes
+pub mod TypeName
 pub mod Range
 pub mod Value
-pub mod TypeName
+pub mod Conversion
+pub mod Reserved
 pub mod Numeral
 pub mod Duration
-pub mod Reading
 pub mod Literal
-pub mod ReadLiteral
 pub mod Printed
+pub mod Address
+-- what serves proofs alone: the steps by which the functions read
+pub mod Reading
+pub mod ReadLiteral
+pub mod ReadConversion
+pub mod ReadAddress

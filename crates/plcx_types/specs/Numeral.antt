@@ -31,10 +31,10 @@ pub record IsNumeral (base : ℕ) (text : List ℕ) (n : ℕ) : Type 0 where
   pub bounded : n ≤ greatest
 
 -- a whole number: a decimal numeral with or without a sign, or a based one
-pub data IsWhole : List ℕ → ℤ → Type 0 where
-  plain : {text : List ℕ} {n : ℕ} → IsNumeral 10 text n → IsWhole text (pos n)
-  plus : {text : List ℕ} {n : ℕ} → IsNumeral 10 text n → IsWhole (codes "+" ++ text) (pos n)
-  minus : {text : List ℕ} {n : ℕ} → IsNumeral 10 text n → IsWhole (codes "-" ++ text) (neg_ℤ (pos n))
-  binary : {text : List ℕ} {n : ℕ} → IsNumeral 2 text n → IsWhole (codes "2#" ++ text) (pos n)
-  octal : {text : List ℕ} {n : ℕ} → IsNumeral 8 text n → IsWhole (codes "8#" ++ text) (pos n)
-  hexadecimal : {text : List ℕ} {n : ℕ} → IsNumeral 16 text n → IsWhole (codes "16#" ++ text) (pos n)
+pub data IsWholeNumber : List ℕ → ℤ → Type 0 where
+  plain : {text : List ℕ} {n : ℕ} → IsNumeral 10 text n → IsWholeNumber text (pos n)
+  plus : {text : List ℕ} {n : ℕ} → IsNumeral 10 text n → IsWholeNumber (codes "+" ++ text) (pos n)
+  minus : {text : List ℕ} {n : ℕ} → IsNumeral 10 text n → IsWholeNumber (codes "-" ++ text) (neg_ℤ (pos n))
+  binary : {text : List ℕ} {n : ℕ} → IsNumeral 2 text n → IsWholeNumber (codes "2#" ++ text) (pos n)
+  octal : {text : List ℕ} {n : ℕ} → IsNumeral 8 text n → IsWholeNumber (codes "8#" ++ text) (pos n)
+  hexadecimal : {text : List ℕ} {n : ℕ} → IsNumeral 16 text n → IsWholeNumber (codes "16#" ++ text) (pos n)

@@ -1,5 +1,5 @@
--- What the reader of literals answers, over texts in lower case.
-use Rattle.std.specs.Prelude.{ℕ, ℤ, pos, Bool, ◌&&◌, List, [], ◌∷◌, Option, Some, None, codes, if◌then◌else◌}
+-- For proofs alone: what the reader of literals answers, over texts in lower case.
+use Rattle.std.specs.Prelude.{ℕ, ℤ, pos, Bool, ◌&&◌, ◌||◌, not, List, [], ◌∷◌, Option, Some, None, codes, if◌then◌else◌}
 use Rattle.std.specs.Int.Signed.{le_z}
 use Rattle.std.specs.Option.{option_map, option_and_then}
 use Rattle.std.specs.Str.{bytes_eq}
@@ -7,7 +7,9 @@ use Rattle.plcx_types.specs.declared.ty.Ty.{Ty}
 use Rattle.plcx_types.specs.declared.ty.Ty.TheVariants as ty
 use Rattle.plcx_types.specs.declared.literal.Literal.{Literal}
 use Rattle.plcx_types.specs.declared.literal.Literal.TheVariants.{Typed, Whole}
+use Rattle.plcx_types.specs.Name.{in_lower_case}
 use Rattle.plcx_types.specs.Range.{bounds_of}
+use Rattle.plcx_types.specs.Value.{Value}
 use Rattle.plcx_types.specs.TypeName.{same_ty, all_types}
 use Rattle.plcx_types.specs.Literal.{value, type_word}
 use Rattle.plcx_types.specs.Reading.{behind, choose, whole, time}
@@ -51,3 +53,12 @@ truth_or (Some n) other = of_type ty.Bool n
 
 unfoldable pub literal_of : List ℕ → Option Literal
 literal_of text = truth_or (truth text) (timed_or_other text)
+
+-- a literal as a value of a type, where it is one
+unfoldable pub as_value : Ty → Literal → Option Value
+as_value t (Typed v) = if same_ty v.ty t then Some v else None
+as_value t (Whole n) = if same_ty t ty.Time || not (is_within t n) then None else Some (value t n)
+
+-- the value of a type that a text stands for, in any case
+abbrev pub value_of : Ty → List ℕ → Option Value
+value_of t text = option_and_then (as_value t) (literal_of (in_lower_case text))

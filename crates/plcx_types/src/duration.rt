@@ -1,13 +1,12 @@
 //! Lengths of time: parts of a number and a unit.
 ghost use Rattle.std.specs.Prelude.{◌≡◌, ◌≤◌, ◌<◌, ◌+◌, ◌*◌, ◌^◌, ℕ, Some, None, IfSome, MatchOption, length};
 ghost use Rattle.std.specs.Option.{option_map, unwrap_or};
-ghost use Rattle.std.specs.Char.{to_ascii_lowercase};
-ghost use Rattle.plcx_types.specs.Name.{folded};
-ghost use Rattle.plcx_types.specs.Numeral.{is_digit};
+ghost use Rattle.plcx_types.specs.Name.{in_lower_case};
 ghost use Rattle.plcx_types.specs.Duration.{letters_of, milliseconds_of, units};
-ghost use Rattle.plcx_types.specs.Reading.{front, back, is_letter, part_at, count, exact, last_part, with_others, behind_gap, parts, time};
+ghost use Rattle.plcx_types.specs.Reading.{part_at, count, exact, last_part, with_others, behind_gap, parts, time};
 
-use crate::numeral::{behind, numeral};
+use crate::numeral::numeral;
+use crate::reading::{behind, split_digits, split_letters};
 
 /// A unit of a length of time.
 #[derive(Clone, Copy)]
@@ -54,40 +53,6 @@ impl TimeUnit {
     }
 }
 
-fn is_decimal(byte: u8) -> bool
-    ensures { result ≡ is_digit 10 (to_ascii_lowercase byte) }
-{
-    byte.is_ascii_digit()
-}
-
-fn is_letter(byte: u8) -> bool
-    ensures { result ≡ is_letter (to_ascii_lowercase byte) }
-{
-    byte.is_ascii_alphabetic()
-}
-
-fn split_digits(text: &[u8]) -> (&[u8], &[u8])
-    ensures digits { folded result.0.now ≡ front (is_digit 10) (folded text.now) }
-    ensures rest { folded result.1.now ≡ back (is_digit 10) (folded text.now) }
-{
-    let mut count = 0;
-    while count < text.len() && is_decimal(text[count]) {
-        count += 1;
-    }
-    text.split_at(count)
-}
-
-fn split_letters(text: &[u8]) -> (&[u8], &[u8])
-    ensures letters { folded result.0.now ≡ front is_letter (folded text.now) }
-    ensures rest { folded result.1.now ≡ back is_letter (folded text.now) }
-{
-    let mut count = 0;
-    while count < text.len() && is_letter(text[count]) {
-        count += 1;
-    }
-    text.split_at(count)
-}
-
 #[derive(Clone, Copy)]
 struct Part<'t> {
     digits: &'t [u8],
@@ -98,10 +63,10 @@ struct Part<'t> {
 
 #[tactic(auto, unfolding(crate::specs::Reading::part_at))]
 fn part_at(text: &[u8]) -> Part<'_>
-    ensures digits { folded result.digits.now ≡ (part_at (folded text.now)).digits }
-    ensures decimals { option_map (λ decimals. folded decimals.now) result.decimals ≡ (part_at (folded text.now)).decimals }
-    ensures letters { folded result.letters.now ≡ (part_at (folded text.now)).letters }
-    ensures rest { folded result.rest.now ≡ (part_at (folded text.now)).rest }
+    ensures digits { in_lower_case result.digits.now ≡ (part_at (in_lower_case text.now)).digits }
+    ensures decimals { option_map (λ decimals. in_lower_case decimals.now) result.decimals ≡ (part_at (in_lower_case text.now)).decimals }
+    ensures letters { in_lower_case result.letters.now ≡ (part_at (in_lower_case text.now)).letters }
+    ensures rest { in_lower_case result.rest.now ≡ (part_at (in_lower_case text.now)).rest }
 {
     let (digits, tail) = split_digits(text);
     match behind(b".", tail) {
@@ -129,7 +94,7 @@ fn part_at(text: &[u8]) -> Part<'_>
 
 #[tactic(auto, unfolding(crate::specs::Reading::count))]
 fn count(most: usize, digits: &[u8]) -> Option<u128>
-    ensures value { result ≡ count most (folded digits.now) }
+    ensures value { result ≡ count most (in_lower_case digits.now) }
     ensures bounded { IfSome result (λ n. n < 10 ^ most) }
     ensures few { IfSome result (λ n. length digits.now ≤ most) }
 {
@@ -163,7 +128,7 @@ fn power_of_ten(exponent: usize) -> u128
 
 #[tactic(auto, unfolding(crate::specs::Reading::last_part))]
 fn last_part(unit: TimeUnit, digits: &[u8], decimals: Option<&[u8]>) -> Option<u128>
-    ensures value { result ≡ last_part unit (folded digits.now) (option_map (λ decimals. folded decimals.now) decimals.entry) }
+    ensures value { result ≡ last_part unit (in_lower_case digits.now) (option_map (λ decimals. in_lower_case decimals.now) decimals.entry) }
     ensures bounded { IfSome result (λ ms. ms ≤ 2 * 10 ^ 29 * 86400000) }
 {
     let n = count(20, digits)?;
@@ -185,7 +150,7 @@ fn with_others(
     others: Option<u128>,
 ) -> Option<u128>
     requires { IfSome others (λ ms. ms ≤ 4 * (2 * 10 ^ 29 * 86400000)) }
-    ensures value { result ≡ with_others unit (folded digits.now) (option_map (λ decimals. folded decimals.now) decimals.entry) others }
+    ensures value { result ≡ with_others unit (in_lower_case digits.now) (option_map (λ decimals. in_lower_case decimals.now) decimals.entry) others }
     ensures bounded { IfSome result (λ sum. sum ≤ 2 * 10 ^ 29 * 86400000 + unwrap_or others 0) }
 {
     if decimals.is_some() {
@@ -197,7 +162,7 @@ fn with_others(
 }
 
 fn behind_gap(text: &[u8]) -> &[u8]
-    ensures { folded result.now ≡ behind_gap (folded text.now) }
+    ensures { in_lower_case result.now ≡ behind_gap (in_lower_case text.now) }
 {
     match behind(b"_", text) {
         Some(rest) => rest,
@@ -208,7 +173,7 @@ fn behind_gap(text: &[u8]) -> &[u8]
 #[tactic(auto, unfolding(crate::specs::Reading::parts))]
 fn parts(units: &[TimeUnit], text: &[u8]) -> Option<u128>
     requires { length units.now ≤ 5 }
-    ensures value { result ≡ parts units.now (folded text.now) }
+    ensures value { result ≡ parts units.now (in_lower_case text.now) }
     ensures bounded { IfSome result (λ ms. ms ≤ length units.now * (2 * 10 ^ 29 * 86400000)) }
 {
     let (unit, others) = units.split_first()?;
@@ -228,7 +193,7 @@ fn parts(units: &[TimeUnit], text: &[u8]) -> Option<u128>
 /// The milliseconds of a length of time.
 #[tactic(auto, unfolding(crate::specs::Reading::time))]
 pub(crate) fn time(text: &[u8]) -> Option<i128>
-    ensures { result ≡ time (folded text.now) }
+    ensures { result ≡ time (in_lower_case text.now) }
 {
     if let Some(rest) = behind(b"-", text) {
         let ms = parts(&UNITS, rest)?;

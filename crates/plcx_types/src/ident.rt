@@ -1,8 +1,9 @@
 ghost use Rattle.std.specs.Prelude.{◌≡◌, ◌↔◌, IsTrue, IfOk, MatchResult};
 ghost use Rattle.std.specs.List.{list_all};
-ghost use Rattle.plcx_types.specs.Name.{is_identifier, is_first_byte, is_next_byte, folded};
+ghost use Rattle.plcx_types.specs.Name.{is_identifier, is_first_byte, is_next_byte, in_lower_case};
 ghost use Rattle.plcx_types.specs.IdentError.{IdentFails};
 
+use crate::limits::MAX_NAME_BYTES;
 use crate::memory::NoMemory;
 use std::alloc::Global;
 use std::marker::Model;
@@ -53,7 +54,7 @@ fn are_next(text: &[u8]) -> bool
 pub fn is_identifier(text: &[u8]) -> bool
     ensures { result ≡ is_identifier text.now }
 {
-    0 < text.len() && text.len() <= 128 && is_first(text[0]) && are_next(text)
+    0 < text.len() && text.len() <= MAX_NAME_BYTES && is_first(text[0]) && are_next(text)
 }
 
 impl Ident {
@@ -91,7 +92,7 @@ impl Ident {
 
     /// Whether both are one name, whatever the case of their letters.
     pub fn same(&self, other: &Ident) -> bool
-        ensures { IsTrue result ↔ (folded self.now ≡ folded other.now) }
+        ensures { IsTrue result ↔ (in_lower_case self.now ≡ in_lower_case other.now) }
     {
         same_name(&self.spelling, &other.spelling)
     }
@@ -99,7 +100,7 @@ impl Ident {
 
 /// Whether two texts are one name, whatever the case of their ASCII letters.
 pub fn same_name(left: &[u8], right: &[u8]) -> bool
-    ensures { IsTrue result ↔ (folded left.now ≡ folded right.now) }
+    ensures { IsTrue result ↔ (in_lower_case left.now ≡ in_lower_case right.now) }
 {
     if left.len() != right.len() {
         return false;
@@ -110,47 +111,4 @@ pub fn same_name(left: &[u8], right: &[u8]) -> bool
         }
     }
     true
-}
-
-#[cfg(test)]
-mod tests {
-    use super::*;
-    use crate::reserved::is_reserved;
-    use std::test::Fail;
-
-    #[test]
-    fn copies_a_name(rt: HostRuntime) -> Result<(), Fail> {
-        let name = Ident::new(rt.alloc(), b"Main")?;
-        let copy = name.copy(rt.alloc())?;
-        assert_eq!(rt; name.text(), b"Main".as_slice());
-        assert_eq!(rt; copy.text(), b"Main".as_slice());
-        assert!(rt; copy.same(&name));
-        Ok(())
-    }
-
-    #[test]
-    fn refuses_a_text_that_is_no_name(rt: HostRuntime) {
-        for text in ["", "1st", "Motor-1", "a.b"] {
-            let name = Ident::new(rt.alloc(), text.as_bytes());
-            assert!(rt; matches!(name, Err(IdentError::NotIdent)), "at {text}");
-        }
-    }
-
-    #[test]
-    fn reserves_words(rt: HostRuntime) {
-        for word in [
-            "While",
-            "eno",
-            "Int",
-            "MOVE",
-            "r_trig",
-            "PLCX_w1",
-            "BOOL_TO_time",
-        ] {
-            assert!(rt; is_reserved(word.as_bytes()), "at {word}");
-        }
-        for word in ["Main", "INT_TO_INT", "INT_TO", "plc_x", "W1", ""] {
-            assert!(rt; !is_reserved(word.as_bytes()), "at {word}");
-        }
-    }
 }

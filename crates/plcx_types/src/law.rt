@@ -3,7 +3,7 @@ ghost use Rattle.std.specs.Prelude.{◌≡◌, ◌↔◌, ℕ, true, List, Some}
 ghost use Rattle.plcx_types.specs.declared.ty.Ty.{Ty};
 ghost use Rattle.plcx_types.specs.declared.literal.Literal.{Literal};
 ghost use Rattle.plcx_types.specs.TypeName.{same_ty, type_name, type_named};
-ghost use Rattle.plcx_types.specs.Literal.{StandsFor, StandsForValue};
+ghost use Rattle.plcx_types.specs.Literal.{StandsForLiteral, StandsForValue};
 ghost use Rattle.plcx_types.specs.Range.{InRange};
 ghost use Rattle.plcx_types.specs.Value.{Value};
 ghost use Rattle.plcx_types.specs.Printed.{printed};
@@ -11,7 +11,7 @@ ghost use Rattle.plcx_types.specs.Printed.{printed};
 /// A text stands for one literal at most.
 #[tactic(auto, using(crate::proofs::Literals::one_form))]
 pub fn one_literal()
-    ensures { (text : List ℕ) (first second : Literal) → StandsFor text first → StandsFor text second → first ≡ second }
+    ensures { (text : List ℕ) (first second : Literal) → StandsForLiteral text first → StandsForLiteral text second → first ≡ second }
 {}
 
 /// A type is known by its name, and compared as it is.

@@ -2,20 +2,20 @@
 ghost use Rattle.std.specs.Prelude.{◌≡◌, ℤ, pos, true, false, Some, None, IfSome, IfNone, IfOk, IfErr, MatchOption};
 ghost use Rattle.std.specs.Option.{option_map};
 ghost use Rattle.plcx_types.specs.declared.ty.Ty.TheVariants as ty;
-ghost use Rattle.plcx_types.specs.Name.{folded};
+ghost use Rattle.plcx_types.specs.Name.{in_lower_case};
 ghost use Rattle.plcx_types.specs.Reading.{GivesRest};
 ghost use Rattle.plcx_types.specs.TypeName.{all_types};
-ghost use Rattle.plcx_types.specs.Literal.{value, type_word, StandsFor, StandsForValue};
-ghost use Rattle.plcx_types.specs.ReadLiteral.{truth, number_behind, of_type, typed, behind_name, typed_or_whole, timed_or_other, literal_of};
+ghost use Rattle.plcx_types.specs.Literal.{value, StandsForLiteral, StandsForValue};
+ghost use Rattle.plcx_types.specs.ReadLiteral.{truth, number_behind, of_type, typed, behind_name, typed_or_whole, timed_or_other, literal_of, as_value, value_of};
 ghost use Rattle.plcx_types.specs.Value.{Value};
-ghost use Rattle.plcx_types.specs.Literal.{IsValueOf, IsNumber};
+ghost use Rattle.plcx_types.specs.Literal.{IsNumber};
+ghost use Rattle.std.specs.Result.{result_ok};
 ghost use Rattle.plcx_types.specs.declared.literal.Literal.{Literal};
-ghost use Rattle.plcx_types.specs.declared.literal.Literal.TheVariants.{Whole};
 
 use crate::duration::time;
-use crate::numeral::{behind, whole};
-use crate::reserved::TYPES;
-use crate::ty::Ty;
+use crate::numeral::whole;
+use crate::reading::behind;
+use crate::ty::{ALL_TYPES, Ty};
 use crate::val::Val;
 
 /// What a literal stands for: a value, or a whole number without a type.
@@ -29,31 +29,9 @@ pub enum Literal {
 #[derive(Clone, Copy, Debug, PartialEq, Eq)]
 pub struct NotLiteral;
 
-const ALL_TYPES: [Ty; 14] = [
-    Ty::Bool,
-    Ty::Byte,
-    Ty::Word,
-    Ty::Dword,
-    Ty::Lword,
-    Ty::Sint,
-    Ty::Int,
-    Ty::Dint,
-    Ty::Lint,
-    Ty::Usint,
-    Ty::Uint,
-    Ty::Udint,
-    Ty::Ulint,
-    Ty::Time,
-];
-
-fn type_word(ty: Ty) -> &'static str
-    ensures { result.now ≡ type_word ty }
-{
-    TYPES[ty as usize]
-}
-
-fn truth(text: &[u8]) -> Option<i128>
-    ensures { result ≡ truth (folded text.now) }
+/// The number of TRUE or FALSE, whatever the case of its letters.
+pub fn truth(text: &[u8]) -> Option<i128>
+    ensures { result ≡ truth (in_lower_case text.now) }
 {
     if text.eq_ignore_ascii_case(b"true") {
         Some(1)
@@ -66,7 +44,7 @@ fn truth(text: &[u8]) -> Option<i128>
 
 #[tactic(auto, unfolding(crate::specs::ReadLiteral::number_behind))]
 fn number_behind(ty: Ty, text: &[u8]) -> Option<i128>
-    ensures { result ≡ number_behind ty (folded text.now) }
+    ensures { result ≡ number_behind ty (in_lower_case text.now) }
 {
     match ty {
         Ty::Time => time(text),
@@ -78,9 +56,9 @@ fn number_behind(ty: Ty, text: &[u8]) -> Option<i128>
 /// The number that a text stands for behind the name of a type and `#`; it may lie outside the type.
 #[tactic(auto, using(crate::proofs::Literals::number_reads, crate::proofs::Literals::number_is))]
 pub fn read_number(ty: Ty, text: &[u8]) -> Option<i128>
-    ensures value { result ≡ number_behind ty (folded text.now) }
-    ensures some { IfSome result (λ n. IsNumber ty (folded text.now) n) }
-    ensures none { IfNone result ((n : ℤ) → IsNumber ty (folded text.now) n → ⊥) }
+    ensures value { result ≡ number_behind ty (in_lower_case text.now) }
+    ensures some { IfSome result (λ n. IsNumber ty (in_lower_case text.now) n) }
+    ensures none { IfNone result ((n : ℤ) → IsNumber ty (in_lower_case text.now) n → ⊥) }
 {
     number_behind(ty, text)
 }
@@ -94,22 +72,22 @@ fn of_type(ty: Ty, n: i128) -> Option<Literal>
 }
 
 fn typed(ty: Ty, text: &[u8]) -> Option<Literal>
-    ensures { result ≡ typed ty (folded text.now) }
+    ensures { result ≡ typed ty (in_lower_case text.now) }
 {
     let n = number_behind(ty, text)?;
     of_type(ty, n)
 }
 
 fn behind_name(ty: Ty, text: &[u8]) -> Option<&[u8]>
-    ensures { GivesRest (λ rest. folded rest.now) result (behind_name ty (folded text.now)) }
+    ensures { GivesRest (λ rest. in_lower_case rest.now) result (behind_name ty (in_lower_case text.now)) }
 {
-    let rest = behind(type_word(ty).as_bytes(), text)?;
+    let rest = behind(ty.name().as_bytes(), text)?;
     behind(b"#", rest)
 }
 
 #[tactic(auto, unfolding(crate::specs::ReadLiteral::typed_or_whole))]
 fn typed_or_whole(types: &[Ty], text: &[u8]) -> Option<Literal>
-    ensures { result ≡ typed_or_whole types.now (folded text.now) }
+    ensures { result ≡ typed_or_whole types.now (in_lower_case text.now) }
 {
     for ty in types {
         if let Some(rest) = behind_name(*ty, text) {
@@ -122,7 +100,7 @@ fn typed_or_whole(types: &[Ty], text: &[u8]) -> Option<Literal>
 
 #[tactic(auto, unfolding(crate::specs::ReadLiteral::timed_or_other))]
 fn timed_or_other(text: &[u8]) -> Option<Literal>
-    ensures { result ≡ timed_or_other (folded text.now) }
+    ensures { result ≡ timed_or_other (in_lower_case text.now) }
 {
     match behind(b"t#", text) {
         Some(rest) => typed(Ty::Time, rest),
@@ -132,7 +110,7 @@ fn timed_or_other(text: &[u8]) -> Option<Literal>
 
 #[tactic(auto, unfolding(crate::specs::ReadLiteral::literal_of))]
 fn literal_of(text: &[u8]) -> Option<Literal>
-    ensures { result ≡ literal_of (folded text.now) }
+    ensures { result ≡ literal_of (in_lower_case text.now) }
 {
     match truth(text) {
         Some(n) => of_type(Ty::Bool, n),
@@ -143,113 +121,42 @@ fn literal_of(text: &[u8]) -> Option<Literal>
 /// The literal that a text is.
 #[tactic(auto, using(crate::proofs::Literals::literal_reads, crate::proofs::Literals::literal_is))]
 pub fn read_literal(text: &[u8]) -> Result<Literal, NotLiteral>
-    ensures ok { IfOk result (λ literal. StandsFor text.now literal) }
-    ensures none { IfErr result (λ _. (literal : Literal) → StandsFor text.now literal → ⊥) }
+    ensures ok { IfOk result (λ literal. StandsForLiteral text.now literal) }
+    ensures none { IfErr result (λ _. (literal : Literal) → StandsForLiteral text.now literal → ⊥) }
+    ensures value { result_ok result ≡ literal_of (in_lower_case text.now) }
 {
     literal_of(text).ok_or(NotLiteral)
 }
 
-fn whole_value(ty: Ty, n: i128) -> Option<Val>
-    ensures some { IfSome result (λ value. IsValueOf ty (Whole n) value) }
-    ensures none { IfNone result ((value : Value) → IsValueOf ty (Whole n) value → ⊥) }
-{
-    match ty {
-        Ty::Time => None,
-        _ => Val::new(ty, n),
-    }
-}
-
+#[tactic(auto, unfolding(crate::specs::ReadLiteral::as_value))]
 fn as_value(ty: Ty, literal: Literal) -> Option<Val>
-    ensures some { IfSome result (λ value. IsValueOf ty literal value) }
-    ensures none { IfNone result ((value : Value) → IsValueOf ty literal value → ⊥) }
+    ensures { result ≡ as_value ty literal }
 {
     match literal {
         Literal::Typed(value) => value.of_type(ty),
-        Literal::Whole(n) => whole_value(ty, n),
+        Literal::Whole(n) => {
+            if ty == Ty::Time {
+                None
+            } else {
+                Val::new(ty, n)
+            }
+        }
     }
+}
+
+fn value_of(ty: Ty, text: &[u8]) -> Option<Val>
+    ensures { result ≡ value_of ty text.now }
+{
+    let literal = literal_of(text)?;
+    as_value(ty, literal)
 }
 
 /// The value of the type that a text is: a typed literal of it, or a whole number in its range. A whole number is no length of time.
+#[tactic(auto, using(crate::proofs::Literals::value_is))]
 pub fn read_value(ty: Ty, text: &[u8]) -> Result<Val, NotLiteral>
     ensures ok { IfOk result (λ value. StandsForValue ty text.now value) }
     ensures none { IfErr result (λ _. (value : Value) → StandsForValue ty text.now value → ⊥) }
+    ensures value { result_ok result ≡ value_of ty text.now }
 {
-    let literal = read_literal(text)?;
-    as_value(ty, literal).ok_or(NotLiteral)
-}
-
-#[cfg(test)]
-mod tests {
-    use super::*;
-
-    const VALUES: [(&str, Ty, i128); 16] = [
-        ("true", Ty::Bool, 1),
-        ("BOOL#False", Ty::Bool, 0),
-        ("BOOL#16#1", Ty::Bool, 1),
-        ("1_000", Ty::Int, 1000),
-        ("+7", Ty::Usint, 7),
-        ("-7", Ty::Lint, -7),
-        ("2#1010_1010", Ty::Byte, 170),
-        ("8#17", Ty::Word, 15),
-        ("16#fF", Ty::Dword, 255),
-        ("int#-32768", Ty::Int, -32768),
-        (
-            "ULINT#16#ffffffffffffffff",
-            Ty::Ulint,
-            18_446_744_073_709_551_615,
-        ),
-        ("T#1.5s", Ty::Time, 1500),
-        ("TIME#1d_2h", Ty::Time, 93_600_000),
-        ("t#-5MS", Ty::Time, -5),
-        ("T#1d1h1m1s1ms", Ty::Time, 90_061_001),
-        ("T#00000000000000000001ms", Ty::Time, 1),
-    ];
-
-    const OTHERS: [(&str, Ty); 20] = [
-        ("yes", Ty::Bool),
-        ("BOOL#5", Ty::Bool),
-        ("INT#TRUE", Ty::Int),
-        ("1__000", Ty::Int),
-        ("1_", Ty::Int),
-        ("_1", Ty::Int),
-        ("+-7", Ty::Lint),
-        ("-16#7", Ty::Lint),
-        ("2#2", Ty::Byte),
-        ("8#", Ty::Word),
-        ("INT#32768", Ty::Int),
-        ("INT#1", Ty::Uint),
-        ("256", Ty::Byte),
-        ("100", Ty::Time),
-        ("T#0.0001s", Ty::Time),
-        ("T#1h1d", Ty::Time),
-        ("T#1.5s1ms", Ty::Time),
-        ("T#1s__1ms", Ty::Time),
-        ("T#000000000000000000001ms", Ty::Time),
-        ("T#", Ty::Time),
-    ];
-
-    #[test]
-    fn reads_each_form(rt: HostRuntime) {
-        for (text, ty, n) in VALUES {
-            let read = read_value(ty, text.as_bytes());
-            assert!(rt; matches!(read, Ok(value) if value.n() == n), "at {text}");
-        }
-    }
-
-    #[test]
-    fn refuses_each_neighbour(rt: HostRuntime) {
-        for (text, ty) in OTHERS {
-            let read = read_value(ty, text.as_bytes());
-            assert!(rt; matches!(read, Err(NotLiteral)), "at {text}");
-        }
-    }
-
-    #[test]
-    fn keeps_a_whole_number_without_a_type(rt: HostRuntime) {
-        let greatest = b"170141183460469231731687303715884105727";
-        let read = read_literal(greatest);
-        assert!(rt; matches!(read, Ok(Literal::Whole(n)) if n == i128::MAX));
-        let above = read_literal(b"170141183460469231731687303715884105728");
-        assert!(rt; matches!(above, Err(NotLiteral)));
-    }
+    value_of(ty, text).ok_or(NotLiteral)
 }

@@ -1,30 +1,18 @@
 //! Numerals, and whole numbers with a sign or a base.
 ghost use Rattle.std.specs.Prelude.{◌≡◌, ◌≤◌, ◌<◌, ◌^◌, true, false, IfSome, Some, None, pos, neg_ℤ, MatchOption};
 ghost use Rattle.std.specs.Option.{option_map};
-ghost use Rattle.plcx_types.specs.Name.{folded};
+ghost use Rattle.plcx_types.specs.Name.{in_lower_case};
 ghost use Rattle.std.specs.Char.{to_ascii_lowercase};
 ghost use Rattle.plcx_types.specs.Numeral.{is_digit, digit_value, greatest};
-ghost use Rattle.plcx_types.specs.Reading.{behind, GivesRest, with_digit, numeral, unsigned_whole, whole};
+ghost use Rattle.plcx_types.specs.Reading.{with_digit, numeral, unsigned_whole, whole};
 
+use crate::reading::behind;
+
+/// The greatest number that a numeral stands for.
 const GREATEST: u128 = 170_141_183_460_469_231_731_687_303_715_884_105_727;
 
-/// The rest of a text that begins with a word, whatever the case of its letters.
-#[tactic(auto)]
-pub(crate) fn behind<'t>(word: &[u8], text: &'t [u8]) -> Option<&'t [u8]>
-    ensures { GivesRest (λ rest. folded rest.now) result (behind (folded word.now) (folded text.now)) }
-{
-    if text.len() < word.len() {
-        return None;
-    }
-    let (front, rest) = text.split_at(word.len());
-    if front.eq_ignore_ascii_case(word) {
-        Some(rest)
-    } else {
-        None
-    }
-}
-
-fn digit(base: u128, byte: u8) -> Option<u128>
+/// The value of a byte that is a digit of the base, whatever its case.
+pub fn digit(base: u128, byte: u8) -> Option<u128>
     ensures { MatchOption result (is_digit base (to_ascii_lowercase byte) ≡ false) (λ digit. (is_digit base (to_ascii_lowercase byte) ≡ true) × (digit ≡ digit_value (to_ascii_lowercase byte))) }
 {
     let digit = match byte.to_ascii_lowercase() {
@@ -35,8 +23,9 @@ fn digit(base: u128, byte: u8) -> Option<u128>
     if digit < base { Some(digit) } else { None }
 }
 
+/// A numeral's number with one more digit; None where it is too great.
 #[tactic(auto, unfolding(crate::specs::Reading::with_digit))]
-fn with_digit(base: u128, n: u128, digit: u128) -> Option<u128>
+pub fn with_digit(base: u128, n: u128, digit: u128) -> Option<u128>
     ensures value { result ≡ with_digit base n digit }
     ensures bounded { IfSome result (λ n. n ≤ greatest) }
 {
@@ -47,7 +36,7 @@ fn with_digit(base: u128, n: u128, digit: u128) -> Option<u128>
 /// The number of a numeral in the base.
 #[tactic(auto, unfolding(crate::specs::Reading::numeral_from))]
 pub(crate) fn numeral(base: u128, text: &[u8]) -> Option<u128>
-    ensures value { result ≡ numeral base (folded text.now) }
+    ensures value { result ≡ numeral base (in_lower_case text.now) }
     ensures bounded { IfSome result (λ n. n ≤ greatest) }
 {
     let mut n = 0;
@@ -66,14 +55,14 @@ pub(crate) fn numeral(base: u128, text: &[u8]) -> Option<u128>
 }
 
 fn positive(base: u128, text: &[u8]) -> Option<i128>
-    ensures { result ≡ option_map pos (numeral base (folded text.now)) }
+    ensures { result ≡ option_map pos (numeral base (in_lower_case text.now)) }
 {
     let n = numeral(base, text)?;
     Some(n as i128)
 }
 
 fn negative(text: &[u8]) -> Option<i128>
-    ensures { result ≡ option_map (λ n. neg_ℤ (pos n)) (numeral 10 (folded text.now)) }
+    ensures { result ≡ option_map (λ n. neg_ℤ (pos n)) (numeral 10 (in_lower_case text.now)) }
 {
     let n = numeral(10, text)?;
     Some(-(n as i128))
@@ -81,7 +70,7 @@ fn negative(text: &[u8]) -> Option<i128>
 
 #[tactic(auto, unfolding(crate::specs::Reading::unsigned_whole))]
 fn unsigned_whole(text: &[u8]) -> Option<i128>
-    ensures { result ≡ unsigned_whole (folded text.now) }
+    ensures { result ≡ unsigned_whole (in_lower_case text.now) }
 {
     if let Some(rest) = behind(b"2#", text) {
         return positive(2, rest);
@@ -98,7 +87,7 @@ fn unsigned_whole(text: &[u8]) -> Option<i128>
 /// A whole number: a decimal numeral with or without a sign, or a based one.
 #[tactic(auto, unfolding(crate::specs::Reading::whole))]
 pub(crate) fn whole(text: &[u8]) -> Option<i128>
-    ensures { result ≡ whole (folded text.now) }
+    ensures { result ≡ whole (in_lower_case text.now) }
 {
     if let Some(rest) = behind(b"+", text) {
         return positive(10, rest);

@@ -1,9 +1,8 @@
 //! Printed values.
 ghost use Rattle.std.specs.Prelude.{◌≡◌, ◌++◌, IfOk, codes};
 ghost use Rattle.std.specs.Fmt.{signed_decimal};
-ghost use Rattle.plcx_types.specs.TypeName.{type_name};
 ghost use Rattle.plcx_types.specs.Printed.{printed, truth_word};
-ghost use Rattle.plcx_types.specs.Literal.{StandsFor};
+ghost use Rattle.plcx_types.specs.Literal.{StandsForLiteral};
 ghost use Rattle.plcx_types.specs.declared.literal.Literal.TheVariants.{Typed};
 ghost use Rattle.plcx_types.specs.Range.{InRange};
 ghost use Rattle.std.specs.Prelude.{string_bytes};
@@ -14,40 +13,25 @@ use crate::ty::Ty;
 use crate::val::Val;
 use std::alloc::Global;
 
-fn type_name(ty: Ty) -> &'static str
-    ensures { result.now ≡ type_name ty }
+fn truth_text(alloc: Global, n: i128) -> Result<String, NoMemory>
+    ensures { IfOk result (λ text. string_bytes text ≡ truth_word n) }
 {
-    match ty {
-        Ty::Bool => "BOOL",
-        Ty::Byte => "BYTE",
-        Ty::Word => "WORD",
-        Ty::Dword => "DWORD",
-        Ty::Lword => "LWORD",
-        Ty::Sint => "SINT",
-        Ty::Int => "INT",
-        Ty::Dint => "DINT",
-        Ty::Lint => "LINT",
-        Ty::Usint => "USINT",
-        Ty::Uint => "UINT",
-        Ty::Udint => "UDINT",
-        Ty::Ulint => "ULINT",
-        Ty::Time => "TIME",
-    }
+    let text = match n {
+        0 => String::from_str(alloc, "FALSE")?,
+        1 => String::from_str(alloc, "TRUE")?,
+        _ => format!(in alloc; "{}#{n}", Ty::Bool.name())?,
+    };
+    Ok(text)
 }
 
-fn truth_word(n: i128) -> &'static str
-    ensures { result.now ≡ truth_word n }
-{
-    if n == 0 { "FALSE" } else { "TRUE" }
-}
-
-fn text_of(alloc: Global, ty: Ty, n: i128) -> Result<String, NoMemory>
+/// A number of a type as its literal is printed; the number may lie outside the type.
+pub fn number_text(alloc: Global, ty: Ty, n: i128) -> Result<String, NoMemory>
     ensures { IfOk result (λ text. string_bytes text ≡ printed (value ty n)) }
 {
     let text = match ty {
-        Ty::Bool => String::from_str(alloc, truth_word(n))?,
+        Ty::Bool => truth_text(alloc, n)?,
         Ty::Time => format!(in alloc; "T#{n}ms")?,
-        _ => format!(in alloc; "{}#{n}", type_name(ty))?,
+        _ => format!(in alloc; "{}#{n}", ty.name())?,
     };
     Ok(text)
 }
@@ -56,35 +40,15 @@ fn bytes_of(alloc: Global, v: Val) -> Result<Vec<u8>, NoMemory>
     ensures form { IfOk result (λ bytes. bytes.items ≡ printed v) }
     ensures range { IfOk result (λ _. InRange v.ty v.n) }
 {
-    let text = text_of(alloc, v.ty(), v.n())?;
+    let text = number_text(alloc, v.ty(), v.n())?;
     Ok(text.into_bytes())
 }
 
 /// The literal of a value, as it is printed everywhere.
 pub fn print_literal(alloc: Global, v: Val) -> Result<Vec<u8>, NoMemory>
     ensures form { IfOk result (λ bytes. bytes.items ≡ printed v) }
-    ensures stands { IfOk result (λ bytes. StandsFor bytes.items (Typed v)) }
+    ensures stands { IfOk result (λ bytes. StandsForLiteral bytes.items (Typed v)) }
 {
     let bytes = bytes_of(alloc, v)?;
     Ok(bytes)
-}
-
-#[cfg(test)]
-mod tests {
-    use super::*;
-    use std::test::Fail;
-
-    #[test]
-    fn prints_values(rt: HostRuntime) -> Result<(), Fail> {
-        for (ty, n, text) in [
-            (Ty::Bool, 1, "TRUE"),
-            (Ty::Time, -5, "T#-5ms"),
-            (Ty::Int, -32768, "INT#-32768"),
-        ] {
-            let value = Val::new(ty, n).expect(&rt, "a value");
-            let bytes = print_literal(rt.alloc(), value)?;
-            assert_eq!(rt; bytes.as_slice(), text.as_bytes());
-        }
-        Ok(())
-    }
 }

@@ -1,130 +1,103 @@
-ghost use Rattle.std.specs.Prelude.{◌≡◌, ◌++◌, codes};
+//! Which names no diagram and no text may give to what it declares.
+ghost use Rattle.std.specs.Prelude.{◌≡◌, map};
 ghost use Rattle.std.specs.List.{list_any};
 ghost use Rattle.std.specs.Str.{str_eq_ignore_ascii_case};
-ghost use Rattle.plcx_types.specs.Reserved.{is_keyword, converts_between, is_conversion, is_listed, is_own, is_reserved};
+ghost use Rattle.plcx_types.specs.Reserved.{is_in, is_keyword, is_conversion, is_of_library, is_listed, is_own, is_reserved};
+ghost use Rattle.plcx_types.specs.TypeName.{all_types, type_name};
 
-/// The words of the text's grammar, also those that no statement has yet, in lower case as all tables here.
-pub const KEYWORDS: [&str; 44] = [
-    "program",
-    "end_program",
-    "function_block",
-    "end_function_block",
-    "function",
-    "end_function",
-    "var",
-    "var_input",
-    "var_output",
-    "var_in_out",
-    "var_temp",
-    "var_external",
-    "var_global",
-    "end_var",
-    "constant",
-    "retain",
-    "at",
-    "if",
-    "then",
-    "else",
-    "elsif",
-    "end_if",
-    "while",
-    "do",
-    "end_while",
-    "case",
-    "of",
-    "end_case",
-    "for",
-    "to",
-    "by",
-    "end_for",
-    "repeat",
-    "until",
-    "end_repeat",
-    "exit",
-    "return",
-    "and",
-    "or",
-    "xor",
-    "not",
-    "mod",
-    "true",
-    "false",
-];
+use crate::conversion::conversion_named;
+use crate::ty::Ty;
 
-/// The elementary types.
-pub const TYPES: [&str; 14] = [
-    "bool", "byte", "word", "dword", "lword", "sint", "int", "dint", "lint", "usint", "uint",
-    "udint", "ulint", "time",
+/// The words of the text's grammar, also those that no statement has yet.
+const KEYWORDS: [&str; 44] = [
+    "PROGRAM",
+    "END_PROGRAM",
+    "FUNCTION_BLOCK",
+    "END_FUNCTION_BLOCK",
+    "FUNCTION",
+    "END_FUNCTION",
+    "VAR",
+    "VAR_INPUT",
+    "VAR_OUTPUT",
+    "VAR_IN_OUT",
+    "VAR_TEMP",
+    "VAR_EXTERNAL",
+    "VAR_GLOBAL",
+    "END_VAR",
+    "CONSTANT",
+    "RETAIN",
+    "AT",
+    "IF",
+    "THEN",
+    "ELSE",
+    "ELSIF",
+    "END_IF",
+    "WHILE",
+    "DO",
+    "END_WHILE",
+    "CASE",
+    "OF",
+    "END_CASE",
+    "FOR",
+    "TO",
+    "BY",
+    "END_FOR",
+    "REPEAT",
+    "UNTIL",
+    "END_REPEAT",
+    "EXIT",
+    "RETURN",
+    "AND",
+    "OR",
+    "XOR",
+    "NOT",
+    "MOD",
+    "TRUE",
+    "FALSE",
 ];
 
 /// The standard functions, but for the conversions and those that are keywords.
-pub const FUNCTIONS: [&str; 21] = [
-    "add", "mul", "sub", "div", "abs", "move", "shl", "shr", "rol", "ror", "sel", "max", "min",
-    "limit", "mux", "gt", "ge", "eq", "le", "lt", "ne",
+const FUNCTIONS: [&str; 21] = [
+    "ADD", "MUL", "SUB", "DIV", "ABS", "MOVE", "SHL", "SHR", "ROL", "ROR", "SEL", "MAX", "MIN",
+    "LIMIT", "MUX", "GT", "GE", "EQ", "LE", "LT", "NE",
 ];
 
 /// The standard function blocks.
-pub const BLOCKS: [&str; 10] = [
-    "ton", "tof", "tp", "ctu", "ctd", "ctud", "sr", "rs", "r_trig", "f_trig",
+const BLOCKS: [&str; 10] = [
+    "TON", "TOF", "TP", "CTU", "CTD", "CTUD", "SR", "RS", "R_TRIG", "F_TRIG",
 ];
 
-fn reads(word: &[u8], entry: &[u8]) -> bool
+/// The enables of functions and blocks.
+const ENABLES: [&str; 2] = ["EN", "ENO"];
+
+fn reads(word: &[u8], entry: &str) -> bool
     ensures { result ≡ str_eq_ignore_ascii_case word.now entry.now }
 {
-    word.eq_ignore_ascii_case(entry)
+    word.eq_ignore_ascii_case(entry.as_bytes())
 }
 
 fn is_in(table: &[&str], word: &[u8]) -> bool
     ensures { result ≡ list_any (λ entry. str_eq_ignore_ascii_case word.now entry.now) table.now }
 {
-    table.iter().any(|entry| reads(word, entry.as_bytes()))
+    table.iter().any(|entry| reads(word, entry))
 }
 
-fn reads_to(rest: &[u8], to: &[u8]) -> bool
-    ensures { result ≡ str_eq_ignore_ascii_case rest.now (codes "_to_" ++ to.now) }
+fn is_type(word: &[u8]) -> bool
+    ensures { result ≡ is_in (map type_name all_types) word.now }
 {
-    4 <= rest.len() && reads(&rest[..4], b"_to_") && reads(&rest[4..], to)
-}
-
-#[tactic(auto, using(crate::proofs::Parts::reads_append))]
-fn reads_from_to(word: &[u8], from: &[u8], to: &[u8]) -> bool
-    ensures { result ≡ str_eq_ignore_ascii_case word.now (from.now ++ (codes "_to_" ++ to.now)) }
-{
-    if word.len() < from.len() {
-        return false;
-    }
-    let (front, rest) = word.split_at(from.len());
-    reads(front, from) && reads_to(rest, to)
-}
-
-fn converts_between(word: &[u8], from: &str, to: &str) -> bool
-    ensures { result ≡ converts_between word.now from.now to.now }
-{
-    from != to && reads_from_to(word, from.as_bytes(), to.as_bytes())
-}
-
-fn converts_from(types: &[&str], word: &[u8], from: &str) -> bool
-    ensures { result ≡ list_any (λ to. converts_between word.now from.now to.now) types.now }
-{
-    types.iter().any(|to| converts_between(word, from, to))
-}
-
-fn converts_among(types: &[&str], word: &[u8]) -> bool
-    ensures { result ≡ list_any (λ from. list_any (λ to. converts_between word.now from.now to.now) types.now) types.now }
-{
-    types.iter().any(|from| converts_from(types, word, from))
+    Ty::named(word).is_some()
 }
 
 fn is_conversion(word: &[u8]) -> bool
     ensures { result ≡ is_conversion word.now }
 {
-    converts_among(&TYPES, word)
+    conversion_named(word).is_some()
 }
 
 fn is_own(word: &[u8]) -> bool
     ensures { result ≡ is_own word.now }
 {
-    5 <= word.len() && reads(&word[..5], b"plcx_")
+    5 <= word.len() && word[..5].eq_ignore_ascii_case(b"PLCX_")
 }
 
 /// Whether a word belongs to the text's grammar.
@@ -134,17 +107,17 @@ pub fn is_keyword(word: &[u8]) -> bool
     is_in(&KEYWORDS, word)
 }
 
+fn is_of_library(word: &[u8]) -> bool
+    ensures { result ≡ is_of_library word.now }
+{
+    is_in(&FUNCTIONS, word) || is_conversion(word) || is_in(&BLOCKS, word)
+}
+
 /// Whether a text may not declare the name.
 pub fn is_listed(word: &[u8]) -> bool
     ensures { result ≡ is_listed word.now }
 {
-    is_keyword(word)
-        || reads(word, b"en")
-        || reads(word, b"eno")
-        || is_in(&TYPES, word)
-        || is_in(&FUNCTIONS, word)
-        || is_conversion(word)
-        || is_in(&BLOCKS, word)
+    is_keyword(word) || is_in(&ENABLES, word) || is_type(word) || is_of_library(word)
 }
 
 /// Whether a diagram may not declare the name.

@@ -1,8 +1,9 @@
-//! Values, and the numbers that each type has.
-ghost use Rattle.std.specs.Prelude.{◌≡◌, ◌≢◌, ◌↔◌, pos, IsTrue, IfSome, IfNone};
-ghost use Rattle.plcx_types.specs.Range.{InRange, bounds_of};
+//! Values: each a number of its type.
+ghost use Rattle.std.specs.Prelude.{◌≡◌, ◌↔◌, pos, IsTrue, IfSome, IfNone, Some, None, if◌then◌else◌};
+ghost use Rattle.plcx_types.specs.Range.{InRange};
+ghost use Rattle.plcx_types.specs.TypeName.{same_ty};
 
-use crate::ty::Ty;
+use crate::ty::{Bounds, Ty};
 use std::marker::Model;
 
 /// A value of a type.
@@ -25,35 +26,11 @@ impl Model for Val {
     ghost inverse = { λ value. record { ty = value.ty; n = value.n } };
 }
 
-#[derive(Clone, Copy)]
-struct Bounds {
-    low: i128,
-    high: i128,
-}
-
-fn bounds_of(ty: Ty) -> Bounds
-    ensures low { result.low ≡ (bounds_of ty).low }
-    ensures high { result.high ≡ (bounds_of ty).high }
-{
-    let (low, high) = match ty {
-        Ty::Bool => (0, 1),
-        Ty::Byte | Ty::Usint => (0, 255),
-        Ty::Word | Ty::Uint => (0, 65_535),
-        Ty::Dword | Ty::Udint => (0, 4_294_967_295),
-        Ty::Lword | Ty::Ulint => (0, 18_446_744_073_709_551_615),
-        Ty::Sint => (-128, 127),
-        Ty::Int => (-32_768, 32_767),
-        Ty::Dint => (-2_147_483_648, 2_147_483_647),
-        Ty::Lint | Ty::Time => (-9_223_372_036_854_775_808, 9_223_372_036_854_775_807),
-    };
-    Bounds { low, high }
-}
-
 /// Whether the number is one of the type.
 pub fn in_range(ty: Ty, n: i128) -> bool
     ensures { IsTrue result ↔ InRange ty n }
 {
-    let Bounds { low, high } = bounds_of(ty);
+    let Bounds { low, high } = ty.bounds();
     low <= n && n <= high
 }
 
@@ -95,8 +72,7 @@ impl Val {
 
     /// The value itself, where it is of the type.
     pub(crate) fn of_type(self, ty: Ty) -> Option<Val>
-        ensures some { IfSome result (λ value. (value ≡ self) × (value.ty ≡ ty)) }
-        ensures none { IfNone result (self.ty ≢ ty) }
+        ensures { result ≡ (if same_ty self.ty ty then Some self else None) }
     {
         if self.ty == ty { Some(self) } else { None }
     }

@@ -1,15 +1,14 @@
 -- Expressions.
-use Rattle.std.specs.Prelude.{ℕ, zero, suc, ◌+◌, max, List, [], ◌∷◌, length, drop, Option, Some, None, Ok, Err, nat_lt, if◌then◌else◌}
+use Rattle.std.specs.Prelude.{ℕ, zero, suc, ◌+◌, max, List, [], ◌∷◌, drop, Option, Some, None, Ok, Err, nat_lt, if◌then◌else◌}
 use Rattle.plcx_lex.specs.Token.{Token}
-use Rattle.plcx_st.specs.declared.terminal.Terminal.{Terminal}
-use Rattle.plcx_st.specs.declared.terminal.Terminal.TheVariants as t
-use Rattle.plcx_st.specs.Terminal.{terminal}
-use Rattle.plcx_st.specs.Place.{Syntax, TooDeep}
+use Rattle.plcx_lex.specs.declared.terminal.Terminal.{Terminal}
+use Rattle.plcx_lex.specs.declared.terminal.Terminal.TheVariants as t
+use Rattle.plcx_lex.specs.Terminal.{terminal}
 use Rattle.plcx_st.specs.Grammar.{word, operator, level, tightest}
 use Rattle.plcx_st.specs.declared.tree.Op.{Op}
 use Rattle.plcx_st.specs.declared.tree.Expr.{Expr}
 use Rattle.plcx_st.specs.declared.tree.Expr.TheVariants as e
-use Rattle.plcx_read.specs.Reading.Tokens.{◌>>=◌, ◌>>◌, Out, next, expect, name_at, literal_at, room, room_told, list_of}
+use Rattle.plcx_read.specs.Reading.Tokens.{syntax, too_deep, ◌>>=◌, ◌>>◌, Out, next, expect, name_at, literal_at, room, room_told, list_of}
 
 -- the operator, where it binds no looser than least
 abbrev pub binding : ℕ → Option Op → Option Op
@@ -39,7 +38,7 @@ module _ (a : ℕ) (inner : ℕ → List Token → Out Expr) where
   -- behind the name, at the bracket
   unfoldable pub call : Token → List Token → Out Expr
   call w ts = do
-    room_told a ts
+    room_told a w ts
     xs ← list_of (inner 0) (drop 1 ts)
     Ok (e.Call (word w) xs.0, xs.1 + 1, xs.2)
 
@@ -68,18 +67,18 @@ module _ (a : ℕ) (inner : ℕ → List Token → Out Expr) where
   operand_by t.Number x xs = valued (x ∷ xs)
   operand_by t.Open x xs = bracketed (x ∷ xs)
   operand_by t.Not x xs = negated x (x ∷ xs)
-  operand_by _ x xs = Err (Syntax (length (x ∷ xs)))
+  operand_by _ x xs = Err (syntax, x ∷ xs)
 
   unfoldable pub operand : List Token → Out Expr
-  operand [] = Err (Syntax 0)
+  operand [] = Err (syntax, [])
   operand (x ∷ xs) = operand_by (terminal x) x xs
 
   -- goes on behind an expression with operators that bind no looser than least
   unfoldable pub climb : ℕ → ℕ → Expr → ℕ → List Token → Out Expr
-  climb zero least left depth ts = with_operator (next_operator least ts) (Ok (left, depth, ts)) (λ o. Err (TooDeep (length ts)))
+  climb zero least left depth ts = with_operator (next_operator least ts) (Ok (left, depth, ts)) (λ o. Err (too_deep, ts))
   climb (suc n) least left depth ts =
       with_operator (next_operator least ts) (Ok (left, depth, ts)) (λ o.
-      if nat_lt a depth then Err (TooDeep (length ts)) else (do
+      if nat_lt a depth then Err (too_deep, ts) else (do
         x ← inner (level o + 1) (drop 1 ts)
         climb n least (e.Binary o left x.0) (max depth x.1 + 1) x.2))
 
@@ -90,5 +89,5 @@ module _ (a : ℕ) (inner : ℕ → List Token → Out Expr) where
 
 -- of depth at most the first number, with operators that bind no looser than the second
 unfoldable pub expr : ℕ → ℕ → List Token → Out Expr
-expr zero least ts = Err (TooDeep (length ts))
+expr zero least ts = Err (too_deep, ts)
 expr (suc a) least ts = level_of a (expr a) least ts

@@ -2,10 +2,9 @@
 use Rattle.std.specs.Prelude.{ℕ, zero, suc, ◌+◌, map, Bool, true, false, List, [], ◌∷◌, length, drop, Option, Some, None, Result, Ok, Err, ◌==◌, if◌then◌else◌}
 use Rattle.std.specs.Char.{to_ascii_uppercase}
 use Rattle.plcx_lex.specs.Token.{Token}
-use Rattle.plcx_st.specs.declared.terminal.Terminal.{Terminal}
-use Rattle.plcx_st.specs.declared.terminal.Terminal.TheVariants as t
-use Rattle.plcx_st.specs.Terminal.{terminal}
-use Rattle.plcx_st.specs.Place.{Fault, Syntax, TooDeep}
+use Rattle.plcx_lex.specs.declared.terminal.Terminal.{Terminal}
+use Rattle.plcx_lex.specs.declared.terminal.Terminal.TheVariants as t
+use Rattle.plcx_lex.specs.Terminal.{terminal}
 use Rattle.plcx_st.specs.Grammar.{ending}
 use Rattle.plcx_st.specs.declared.tree.Number.{Number}
 use Rattle.plcx_st.specs.declared.tree.TextKind.{TextKind}
@@ -17,14 +16,14 @@ use Rattle.plcx_st.specs.declared.tree.Mark.TheVariants as mark
 use Rattle.plcx_st.specs.declared.tree.Decl.{Decl}
 use Rattle.plcx_st.specs.declared.tree.TextBlock.{TextBlock}
 use Rattle.plcx_st.specs.declared.tree.PouText.{PouText}
-use Rattle.plcx_read.specs.Reading.Tokens.{◌>>=◌, Read, Out, same, next, sees, expect, name_at, literal_at, all_of}
+use Rattle.plcx_read.specs.Reading.Tokens.{syntax, too_deep, Stop, ◌>>=◌, Read, Out, same, next, sees, expect, name_at, literal_at, all_of}
 use Rattle.plcx_read.specs.Reading.Stmts.{statements}
 
 -- ---- declarations
 
 unfoldable pub address_token : List Token → Out (Option (List ℕ))
-address_token [] = Err (Syntax 0)
-address_token (x ∷ xs) = if same (terminal x) t.Address then Ok (Some (map to_ascii_uppercase x.text), 0, xs) else Err (Syntax (length (x ∷ xs)))
+address_token [] = Err (syntax, [])
+address_token (x ∷ xs) = if same (terminal x) t.Address then Ok (Some (map to_ascii_uppercase x.text), 0, xs) else Err (syntax, x ∷ xs)
 
 unfoldable pub address_at : List Token → Out (Option (List ℕ))
 address_at ts = if sees t.At ts then address_token (drop 1 ts) else Ok (None, 0, ts)
@@ -81,10 +80,10 @@ block_by t.VarInput h ts = marked_block class.Input ts
 block_by t.VarOutput h ts = marked_block class.Output ts
 block_by t.VarTemp h ts = block_of decl class.Temp mark.Plain ts
 block_by t.VarInOut h ts = block_of bare_decl class.InOut mark.Plain ts
-block_by _ h ts = Err (Syntax (length (h ∷ ts)))
+block_by _ h ts = Err (syntax, h ∷ ts)
 
 unfoldable pub block : List Token → Out TextBlock
-block [] = Err (Syntax 0)
+block [] = Err (syntax, [])
 block (h ∷ ts) = block_by (terminal h) h ts
 
 abbrev pub begins_block : Terminal → Bool
@@ -109,7 +108,7 @@ pou_of b k ts = do
 abbrev pub pou_by : ℕ → Terminal → Token → List Token → Out PouText
 pou_by b t.Program h ts = pou_of b kind.Program (h ∷ ts)
 pou_by b t.FunctionBlock h ts = pou_of b kind.FunctionBlock (h ∷ ts)
-pou_by b _ h ts = Err (Syntax (length (h ∷ ts)))
+pou_by b _ h ts = Err (syntax, h ∷ ts)
 
 abbrev pub begins_pou : Terminal → Bool
 begins_pou t.Program = true
@@ -118,12 +117,12 @@ begins_pou _ = false
 
 -- of depth at most the number
 unfoldable pub pou : ℕ → List Token → Out PouText
-pou zero ts = Err (TooDeep (length ts))
-pou (suc b) [] = Err (Syntax 0)
+pou zero ts = Err (too_deep, ts)
+pou (suc b) [] = Err (syntax, [])
 pou (suc b) (h ∷ ts) = pou_by b (terminal h) h ts
 
 -- all of the tokens
-unfoldable pub pous : ℕ → List Token → Result (List PouText) Fault
+unfoldable pub pous : ℕ → List Token → Result (List PouText) Stop
 pous bound ts = do
   ps ← all_of begins_pou (pou bound) ts
-  if length ps.2 == 0 then Ok ps.0 else Err (Syntax (length ps.2))
+  if length ps.2 == 0 then Ok ps.0 else Err (syntax, ps.2)

@@ -9,4 +9,7 @@ returns-in-None c = record {
 }
 
 pub returns-in-Some-token : goal.returns-in-Some-token
-returns-in-Some-token c = (c.in-Some-token.ensures, λ n h. elim h [ inl b ↦ c.in_default.ensures n b | inr l ↦ c.in_default-line_len.ensures n l ])
+returns-in-Some-token c = record {
+  piece = (c.in-Some-token.ensures.token, λ n h. elim h [ inl b ↦ c.in_default.ensures n b | inr l ↦ c.in_default-line_len.ensures n l ]);
+  terminal = c.in-Some-token.ensures.terminal;
+}

@@ -7,7 +7,7 @@ use Rattle.plcx_lex.proofs.whole.time_len.Goals as goal
 
 pub loop-n-init : goal.loop-n-init
 loop-n-init c =
-    let run = subst (λ (t : List ℕ). IsRun (belongs class.Time) t c.run_len-n.result) c.front.ensures c.run_len-n.ensures in
+    let run = subst (λ (t : List ℕ). IsRun (belongs class.Time) t c.run_len-n.result) c.prefix.ensures c.run_len-n.ensures in
     record { within = omega (arith, run.within, length-take 128 c.args.text.now); longest = time_above c.args.text.now c.run_len-n.result run }
 
 pub returns-in-Some : goal.returns-in-Some

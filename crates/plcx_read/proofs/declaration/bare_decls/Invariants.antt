@@ -3,4 +3,4 @@ use Rattle.plcx_read.specs.Reading as spec
 use Rattle.plcx_read.proofs.declaration.bare_decls.Given as goal
 
 abbrev pub invariant-loop-turn : goal.invariant-loop-turn
-invariant-loop-turn l = spec.several spec.begins_decl spec.bare_decl (length l.tokens + 1 - l._turn) l.found 0 l.rest ≡ spec.all_of spec.begins_decl spec.bare_decl l.tokens
+invariant-loop-turn l = spec.several spec.begins_decl spec.bare_decl (length l.tokens + 1 - l._turn) l.found.items 0 l.rest ≡ spec.all_of spec.begins_decl spec.bare_decl l.tokens

@@ -3,4 +3,4 @@ use Rattle.plcx_read.specs.Reading as spec
 use Rattle.plcx_read.proofs.declaration.blocks.Given as goal
 
 abbrev pub invariant-loop-turn : goal.invariant-loop-turn
-invariant-loop-turn l = spec.several spec.begins_block spec.block (length l.tokens + 1 - l._turn) l.found 0 l.rest ≡ spec.all_of spec.begins_block spec.block l.tokens
+invariant-loop-turn l = spec.several spec.begins_block spec.block (length l.tokens + 1 - l._turn) l.found.items 0 l.rest ≡ spec.all_of spec.begins_block spec.block l.tokens

@@ -28,7 +28,7 @@ decreases-operand l = 6 * l.allowance + 5
 
 abbrev pub invariant-arguments-loop-turn : goal.invariant-arguments-loop-turn
 invariant-arguments-loop-turn l =
-    (spec.parted (spec.expr l.allowance 0) (length l.tokens + 1 - l._turn) l.found l.depth l.rest ≡ spec.list_of (spec.expr l.allowance 0) l.tokens)
+    (spec.parted (spec.expr l.allowance 0) (length l.tokens + 1 - l._turn) l.found.items l.depth l.rest ≡ spec.list_of (spec.expr l.allowance 0) l.tokens)
     × (l.depth ≤ l.allowance)
 
 abbrev pub invariant-climb-loop-turn : goal.invariant-climb-loop-turn

@@ -1,10 +1,10 @@
 use Rattle.std.proofs.Common.{◌≡◌, take, length}
-use Rattle.plcx_types.specs.Name.{folded}
+use Rattle.plcx_types.specs.Name.{in_lower_case}
 use Rattle.plcx_types.proofs.ident.same_name.Given as goal
 
 -- the names agree so far
 abbrev pub invariant-loop-i : goal.invariant-loop-i
 invariant-loop-i l = record {
-  alike : folded (take l.i l.left) ≡ folded (take l.i l.right);
+  alike : in_lower_case (take l.i l.left) ≡ in_lower_case (take l.i l.right);
   lengths : length l.left ≡ length l.right;
 }

@@ -1,6 +1,6 @@
 use Rattle.std.proofs.Common.{◌∙◌, ap}
 use Rattle.plcx_lex.specs.Token.{Token}
-use Rattle.plcx_st.specs.Terminal.{terminal, terminal_of}
+use Rattle.plcx_lex.specs.Terminal.{terminal, terminal_of}
 use Rattle.plcx_read.proofs.lexeme.Lexeme.terminal.Goals as goal
 
 pub returns : goal.returns

@@ -1,0 +1,3 @@
+pub mod Parts
+pub mod BodyIn
+pub mod DraftIn

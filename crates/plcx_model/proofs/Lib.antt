@@ -1,0 +1,3 @@
+pub mod OneVerdict
+pub mod Judging
+pub mod BodyGraphs

@@ -1,0 +1,10 @@
+pub mod Verdict
+pub mod Lists
+pub mod Keys
+pub mod Graph
+pub mod Shown
+pub mod Paths
+pub mod Networks
+pub mod Feedback
+pub mod Orders
+pub mod Numbering

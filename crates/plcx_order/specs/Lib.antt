@@ -1,0 +1,4 @@
+pub mod Walks
+pub mod Ranks
+pub mod Counts
+pub mod Classes

@@ -1,0 +1,11 @@
+-- What is declared, as the code sees it.
+use Rattle.std.specs.Prelude.{◌≡◌, ℕ, List}
+use Rattle.std.specs.Str.{bytes_eq}
+use Rattle.std.specs.HashSet.{HashSet, contains_by}
+use Rattle.plcx_profile.specs.declared.declaration.Declaration as code
+use Rattle.plcx_profile.specs.declared.declaration.Declaration.TheVariants as variant
+use Rattle.plcx_profile.specs.Declared.{Declared, OfPou, OfVariable}
+
+abbrev pub shown : code.Declaration → Declared
+shown (variant.Pou p) = OfPou p.now
+shown (variant.Variable list v) = OfVariable list.now v.now

@@ -1,0 +1,17 @@
+-- Serves proofs: what the table of a file's function blocks tells.
+use Rattle.std.specs.Prelude.{◌≡◌, ℕ, Bool, List, Vec, Global, Option, Some, None, if◌then◌else◌}
+use Rattle.std.specs.Map.{lookup}
+use Rattle.std.specs.Str.{bytes_eq}
+use Rattle.plcx_draft.specs.declared.draft.DraftPou.{DraftPou}
+use Rattle.plcx_profile.specs.Blocks.{block_named}
+
+-- the place of each name
+abbrev pub Tells : List DraftPou → List (Vec ℕ Global × ℕ) → Type 0
+Tells pous entries = (q : List ℕ) → lookup (λ k. bytes_eq q k.items) entries ≡ block_named pous q
+
+abbrev pub found_or : Option ℕ → Option ℕ → Option ℕ
+found_or None other = other
+found_or (Some x) other = Some x
+
+abbrev pub place_if : Bool → ℕ → Option ℕ
+place_if b place = if b then Some place else None
