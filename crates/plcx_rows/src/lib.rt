@@ -15,3 +15,5 @@ mod tests;
 mod texts;
 #[cfg(test)]
 mod values;
+#[cfg(test)]
+mod xml;

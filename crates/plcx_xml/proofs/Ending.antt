@@ -99,15 +99,17 @@ pub front-stops : (bytes front : List ℕ) (e : XmlError) → IsUtf8 bytes → f
 front-stops bytes front (xml.NotUtf8 at) u f l s = absurd s
 front-stops bytes front (xml.Token at) u f l s =
     let here = s.here in
-    let more = s.more in
-    (u, record {
-      tokens = s.tokens;
-      rest = s.rest;
-      front = subst (λ (xs : List ℕ). BeginsWith xs s.tokens s.rest) f s.begins;
-      here = s.here ∙ ap (λ (xs : List ℕ). length xs) f;
-      none = s.none;
-      inside = omega arith;
-    })
+    let more = s.more in (
+      u,
+      record {
+        tokens = s.tokens;
+        rest = s.rest;
+        front = subst (λ (xs : List ℕ). BeginsWith xs s.tokens s.rest) f s.begins;
+        here = s.here ∙ ap (λ (xs : List ℕ). length xs) f;
+        none = s.none;
+        inside = omega arith;
+      },
+    )
 front-stops bytes front (xml.Nesting at) u f l s = absurd s
 front-stops bytes front (xml.TooDeep at) u f l s = absurd s
 front-stops bytes front xml.NoMemory u f l s = tt
@@ -117,15 +119,17 @@ none-here at t after h = let p = here-parted at [] t after h in absurd (omega ar
 
 -- the front is made of tokens, and is not the whole
 pub front-ends : (bytes front : List ℕ) (b : Build) → IsUtf8 bytes → front ≡ front_of bytes → length front < length bytes → Reached front [] b → Fails bytes (xml.Token (length front))
-front-ends bytes front b u f l m =
-    (u, record {
-      tokens = m.done;
-      rest = [];
-      front = subst (λ (xs : List ℕ). BeginsWith xs m.done []) f m.front;
-      here = omega (arith, ap (λ (xs : List ℕ). length xs) f);
-      none = λ t after h. none-here (length front) t after h;
-      inside = l;
-    })
+front-ends bytes front b u f l m = (
+  u,
+  record {
+    tokens = m.done;
+    rest = [];
+    front = subst (λ (xs : List ℕ). BeginsWith xs m.done []) f m.front;
+    here = omega (arith, ap (λ (xs : List ℕ). length xs) f);
+    none = λ t after h. none-here (length front) t after h;
+    inside = l;
+  },
+)
 
 pub stops-here : (front rest : List ℕ) (b : Build) → Reached front rest b → token_at (length front) rest ≡ None → 0 < length rest → Stops front (xml.Token (length front - length rest))
 stops-here front rest b m r l =

@@ -44,7 +44,7 @@ front-some bytes at c rest u b h p d =
     let cs : h.0 ≡ chars (take at bytes) = chars_from_encodes h.0 (take at bytes) front h.1 in
     let behind : chars (drop at bytes) ≡ c ∷ chars rest = chars_past_char (drop at bytes) rest c back d in
     let all : chars bytes ≡ h.0 ++ c ∷ chars rest =
-        ap chars (sym (take-append-drop at bytes)) ∙ (chars-append (take at bytes) (drop at bytes) front ∙ (ap (λ (xs : List ℕ). xs ++ chars (drop at bytes)) (sym cs) ∙ ap (λ (xs : List ℕ). h.0 ++ xs) behind)) in
+    ap chars (sym (take-append-drop at bytes)) ∙ (chars-append (take at bytes) (drop at bytes) front ∙ (ap (λ (xs : List ℕ). xs ++ chars (drop at bytes)) (sym cs) ∙ ap (λ (xs : List ℕ). h.0 ++ xs) behind)) in
     sym (front-chars bytes h.0 (c ∷ chars rest) all (all-known h.0 h.2) (not-known (is_character c) p) ∙ h.1)
 
 encodes-front : (bytes : List ℕ) → IsUtf8 bytes → encode_utf8_all (chars bytes) ≡ bytes

@@ -19,4 +19,5 @@ pub mod Reached
 pub mod Fronts
 pub mod Ending
 pub mod OneFile
+pub mod OneFault
 pub mod OneTree

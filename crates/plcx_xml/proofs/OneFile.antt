@@ -25,7 +25,7 @@ none-here at bytes t after e h =
     let n : length bytes ≡ 0 = ap (λ (xs : List ℕ). length xs) e in
     absurd (omega arith)
 
-here-one : (last at : ℕ) (bytes : List ℕ) (t u : Token) (x y : List ℕ) → StandsAt at bytes t x → StandsAt at bytes u y → at + length bytes ≡ last → ◌≡◌ {A = Token × List ℕ} (u, y) (t, x)
+pub here-one : (last at : ℕ) (bytes : List ℕ) (t u : Token) (x y : List ℕ) → StandsAt at bytes t x → StandsAt at bytes u y → at + length bytes ≡ last → ◌≡◌ {A = Token × List ℕ} (u, y) (t, x)
 here-one last at bytes t u x y h k l = some_inj (u, y) (t, x) (sym (token-again last at bytes u y k l) ∙ token-again last at bytes t x h l)
 
 -- tokens that begin alike go on with the rest
@@ -69,16 +69,16 @@ file-tokens-one bytes ts us h k =
     sym (g.parted ∙ (ap (λ (xs : List Token). ts ++ xs) (ended g.at g.more g.stand) ∙ append-nil ts))
 
 -- a token that may not stand there stops all that follow
-refused-run : (allows : ℕ → Bool) (ts : List Token) (at : ℕ) → IsFirstRefused allows ts at → run allows ts outset ≡ None
+pub refused-run : (allows : ℕ → Bool) (ts : List Token) (at : ℕ) → IsFirstRefused allows ts at → run allows ts outset ≡ None
 refused-run allows ts at f =
     ap (λ (xs : List Token). run allows xs outset) f.parted
     ∙ (run-split allows f.before (f.token ∷ f.after) outset
     ∙ (ap (λ (o : Option Place). o >>= run allows (f.token ∷ f.after)) f.ran ∙ ap (λ (o : Option Place). o >>= run allows f.after) f.refused))
 
-open-not : (p : Place) → p ≡ settled [] → p.closed ≡ false → ⊥
+pub open-not : (p : Place) → p ≡ settled [] → p.closed ≡ false → ⊥
 open-not p e c = let t : p.closed ≡ true = ap (λ (q : Place). q.closed) e in let no : ⊥ = cc in no
 
-no-token : (bytes : List ℕ) (at : ℕ) (ts : List Token) → HasTokens bytes ts → IsTokenPlace bytes at → ⊥
+pub no-token : (bytes : List ℕ) (at : ℕ) (ts : List Token) → HasTokens bytes ts → IsTokenPlace bytes at → ⊥
 no-token bytes at ts t p =
     let whole : front_of bytes ≡ bytes = front-whole bytes t.text t.characters in
     let front : BeginsWith bytes p.tokens p.rest = subst (λ (xs : List ℕ). BeginsWith xs p.tokens p.rest) whole p.front in

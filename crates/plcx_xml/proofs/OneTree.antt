@@ -258,7 +258,7 @@ element-apart e fs =
     let own : events_of_element e ≡ front ++ End v.0.name v.0.span.end ∷ [] = same in
     let tail = end-apart v.0.name v.0.span.end fs in
     let all : fold with_event (events_of_element e) fs ≡ (front ++ End v.0.name v.0.span.end ∷ []) ++ tail.0 =
-        ap (λ (xs : List Event). fold with_event xs fs) own ∙ (fold-behind fs front (End v.0.name v.0.span.end ∷ []) (omega arith) ∙ (ap (λ (xs : List Event). front ++ xs) tail.1 ∙ sym (append_assoc front (End v.0.name v.0.span.end ∷ []) tail.0))) in
+    ap (λ (xs : List Event). fold with_event xs fs) own ∙ (fold-behind fs front (End v.0.name v.0.span.end ∷ []) (omega arith) ∙ (ap (λ (xs : List Event). front ++ xs) tail.1 ∙ sym (append_assoc front (End v.0.name v.0.span.end ∷ []) tail.0))) in
     (tail.0, all ∙ ap (λ (xs : List Event). xs ++ tail.0) (sym own))
 
 abbrev own : (bytes : List ℕ) (a : Element) → StandsForTree bytes a → List Event

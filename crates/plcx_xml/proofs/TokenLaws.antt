@@ -144,23 +144,23 @@ either-stands last at bytes t rest a b f g h = of (either-some a b (t, rest) h)
 other_token-sound : (last at : ℕ) (bytes : List ℕ) (t : Token) (rest : List ℕ) → other_token last bytes ≡ Some (t, rest) → at + length bytes ≡ last → StandsAt at bytes t rest
 other_token-sound last at bytes t rest h l =
     either-stands last at bytes t rest (reference_token last bytes) (or_else (comment_token last bytes) (or_else (instruction_token last bytes) (cdata_token last bytes)))
-        (λ e. reference_token-sound last at bytes t rest e l)
-        (λ e. either-stands last at bytes t rest (comment_token last bytes) (or_else (instruction_token last bytes) (cdata_token last bytes))
-            (λ i. comment_token-sound last at bytes t rest i l)
-            (λ i. either-stands last at bytes t rest (instruction_token last bytes) (cdata_token last bytes)
-                (λ j. instruction_token-sound last at bytes t rest j l)
-                (λ j. cdata_token-sound last at bytes t rest j l) i) e) h
+    (λ e. reference_token-sound last at bytes t rest e l)
+    (λ e. either-stands last at bytes t rest (comment_token last bytes) (or_else (instruction_token last bytes) (cdata_token last bytes))
+    (λ i. comment_token-sound last at bytes t rest i l)
+    (λ i. either-stands last at bytes t rest (instruction_token last bytes) (cdata_token last bytes)
+    (λ j. instruction_token-sound last at bytes t rest j l)
+    (λ j. cdata_token-sound last at bytes t rest j l) i) e) h
 
 -- what is read stands there
 pub token-sound : (last at : ℕ) (bytes : List ℕ) (t : Token) (rest : List ℕ) → token_at last bytes ≡ Some (t, rest) → at + length bytes ≡ last → StandsAt at bytes t rest
 token-sound last at bytes t rest h l =
     either-stands last at bytes t rest (end_token last bytes) (or_else (tag_token last bytes) (or_else (text_token last bytes) (other_token last bytes)))
-        (λ e. end_token-sound last at bytes t rest e l)
-        (λ e. either-stands last at bytes t rest (tag_token last bytes) (or_else (text_token last bytes) (other_token last bytes))
-            (λ i. tag_token-sound last at bytes t rest i l)
-            (λ i. either-stands last at bytes t rest (text_token last bytes) (other_token last bytes)
-                (λ j. text_token-sound last at bytes t rest j l)
-                (λ j. other_token-sound last at bytes t rest j l) i) e) h
+    (λ e. end_token-sound last at bytes t rest e l)
+    (λ e. either-stands last at bytes t rest (tag_token last bytes) (or_else (text_token last bytes) (other_token last bytes))
+    (λ i. tag_token-sound last at bytes t rest i l)
+    (λ i. either-stands last at bytes t rest (text_token last bytes) (other_token last bytes)
+    (λ j. text_token-sound last at bytes t rest j l)
+    (λ j. other_token-sound last at bytes t rest j l) i) e) h
 
 -- a token with the span that reading gives it
 spanned : (last at : ℕ) (text rest : List ℕ) (k : Kind) (span : Span) → span ≡ span_from at (length text) → at + length (text ++ rest) ≡ last → ◌≡◌ {A = Option (Token × List ℕ)} (Some (token_of k last (text ++ rest) rest)) (Some (record { kind = k; span = span }, rest))

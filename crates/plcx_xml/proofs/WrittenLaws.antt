@@ -19,7 +19,6 @@ pub map_some : {A B : Type 0} (f : A → B) (o : Option A) (b : B) → option_ma
 map_some f None b h = let no : ⊥ = cc in absurd no
 map_some f (Some a) b h = (a, refl, some_inj (f a) b h)
 
-
 pub reference-sound : (bytes : List ℕ) (c : ℕ) (rest : List ℕ) → reference_at bytes ≡ Some (c, rest) → (text : List ℕ) × SpellsReference c text × (bytes ≡ text ++ rest)
 unfolding reference_at
 reference-sound bytes c rest h =

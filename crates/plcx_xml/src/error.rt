@@ -1,9 +1,9 @@
 //! Why bytes stand for no tree that is read.
-use std::alloc::{AllocError, AllocFailed};
-use thiserror::Error;
-
 ghost use Rattle.std.specs.Prelude.{◌≡◌};
 ghost use Rattle.plcx_xml.specs.declared.error.XmlError.TheVariants.{NoMemory};
+
+use std::alloc::{AllocError, AllocFailed};
+use thiserror::Error;
 
 /// Why bytes gave no tree. Each `at` is an offset in bytes, and the first fault in this order is told.
 #[derive(Clone, Copy, Debug, PartialEq, Eq, Error)]

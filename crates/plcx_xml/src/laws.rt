@@ -15,3 +15,8 @@ pub fn one_tree()
 pub fn no_tree()
     ensures { (bytes : List ℕ) (e : XmlError) (root : Element) → (e ≡ NoMemory → ⊥) → Fails bytes e → IsTreeOf bytes root → ⊥ }
 {}
+
+/// The first fault of a file is one, with its place.
+pub fn one_fault()
+    ensures { (bytes : List ℕ) (a b : XmlError) → (a ≡ NoMemory → ⊥) → (b ≡ NoMemory → ⊥) → Fails bytes a → Fails bytes b → a ≡ b }
+{}

@@ -19,7 +19,7 @@ mod tree;
 mod value;
 
 pub use error::XmlError;
-pub use laws::{no_tree, one_tree};
+pub use laws::{no_tree, one_fault, one_tree};
 pub use reading::read_tree;
 pub use token::{Kind, Token};
 pub use tree::{Attribute, Element, Node, Text};

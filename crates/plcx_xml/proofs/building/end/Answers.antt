@@ -8,4 +8,4 @@ use Rattle.plcx_xml.proofs.building.end.Goals as goal
 pub returns-clause-events : goal.returns-clause-events
 returns-clause-events c =
     subst (λ (es : List Event). IfOk c.put_element.result (λ b. Keeps b es))
-        (closed-events _ _ _ _ _ _ c.in-Some.ensures.items (names-same _ _ _ c.as_slice.ensures c.if-ne.ensures) refl) c.put_element.ensures.events
+    (closed-events _ _ _ _ _ _ c.in-Some.ensures.items (names-same _ _ _ c.as_slice.ensures c.if-ne.ensures) refl) c.put_element.ensures.events
