@@ -17,3 +17,4 @@ pub mod AllNetworks
 pub mod LinkSteps
 pub mod Spreads
 pub mod Gathered
+pub mod OneNetworks

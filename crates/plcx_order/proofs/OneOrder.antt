@@ -119,11 +119,11 @@ was_listed [] x v (inr not) = absurd not
 was_listed (y ∷ xs) x v (inl is) = inr (inl is)
 was_listed (y ∷ xs) x v (inr later) = elim (was_listed xs x v later) [ inl is ↦ inl is | inr there ↦ inr (inr there) ]
 
-record IsRest (xs : List ℕ) (x : ℕ) (ys : List ℕ) : Type 0 where
+pub record IsRest (xs : List ℕ) (x : ℕ) (ys : List ℕ) : Type 0 where
   pub shorter : length xs ≡ suc (length ys)
   pub others : (v : ℕ) → Listed xs v → (v ≡ x) ⊎ Listed ys v
 
-without : (xs : List ℕ) (x : ℕ) → Listed xs x → (ys : List ℕ) × IsRest xs x ys
+pub without : (xs : List ℕ) (x : ℕ) → Listed xs x → (ys : List ℕ) × IsRest xs x ys
 without [] x h = absurd h
 without (y ∷ xs) x (inl is) = (xs, record { shorter = refl; others = λ v l. elim l [ inl e ↦ inl (e ∙ sym is) | inr later ↦ inr later ] })
 without (y ∷ xs) x (inr there) =

@@ -18,7 +18,7 @@ mod waits;
 mod walk;
 
 pub use classes::{networks, networks_uncounted};
-pub use law::one_order;
+pub use law::{one_list_of_networks, one_order};
 pub use listing::{order, orders, orders_uncounted};
 pub use marks::{feedback, feedback_uncounted};
 pub use plcx_model::{Key, Source, Steps, Wire, Wires};
