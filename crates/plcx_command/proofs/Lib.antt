@@ -1,3 +1,4 @@
 pub mod Composed
 pub mod Laws
 pub mod OneVerdict
+pub mod Judged

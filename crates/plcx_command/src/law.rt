@@ -5,7 +5,7 @@ ghost use Rattle.plcx_command.specs.Verdict.{Verdict, FileVerdict};
 
 use plcx_first_order::one_plan;
 use plcx_profile::one_profile_verdict;
-use plcx_xml::{one_fault, one_tree};
+use plcx_xml::{no_tree, one_fault, one_tree};
 
 /// A file has one verdict.
 pub fn one_verdict()
@@ -13,6 +13,7 @@ pub fn one_verdict()
 {
     one_tree();
     one_fault();
+    no_tree();
     one_profile_verdict();
 }
 

@@ -6,7 +6,7 @@ use Rattle.plcx_first_model.specs.PlanOf.{networks_of}
 use Rattle.plcx_meaning.specs.Templates.{unit_of}
 use Rattle.plcx_st.specs.Meant.{meant}
 use Rattle.plcx_command.proofs.Composed.{the_item, text_made}
-use Rattle.plcx_command.proofs.compiling.text_of.Goals as goal
+use Rattle.plcx_command.proofs.judging.text_of.Goals as goal
 
 pub returns : goal.returns
 returns c =
