@@ -13,11 +13,9 @@ use crate::lexing::is_blank;
 use crate::token::{Kind, Token};
 use crate::tree::{Attribute, Element, Node, Text};
 use plcx_types::Span;
+use plcx_types::limits::MAX_ELEMENT_DEPTH;
 use sqlite_items::Items;
 use std::alloc::{AllocError, Global};
-
-/// How many elements may lie in one another.
-const MAX_DEPTH: usize = 64;
 
 /// An element that is open.
 #[derive(Drop)]
@@ -156,7 +154,7 @@ fn begin(
     ensures state { IfOk result (λ build. state_of build ≡ next (Going (open_place frames.items)) (kind.Start name attributes) start) }
     ensures events { IfOk result (λ build. Keeps build (flat_map opened frames.items ++ Begin name attributes start ∷ [])) }
 {
-    if frames.len() >= MAX_DEPTH {
+    if frames.len() >= MAX_ELEMENT_DEPTH {
         let mut names = names_of(alloc, frames.as_slice())?;
         names.push(name)?;
         return Ok(Build::Deep { names, at: start });
@@ -206,7 +204,7 @@ fn empty(
     ensures events { IfOk result (λ build. Keeps build
         (flat_map opened frames.items ++ kind_events (kind.Empty name attributes) span)) }
 {
-    if frames.len() >= MAX_DEPTH {
+    if frames.len() >= MAX_ELEMENT_DEPTH {
         let names = names_of(alloc, frames.as_slice())?;
         return Ok(Build::Deep {
             names,
