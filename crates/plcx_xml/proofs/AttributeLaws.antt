@@ -8,7 +8,7 @@ use Rattle.plcx_xml.specs.Grammar.{SpellsAttribute, SpellsAttributes, span_from}
 use Rattle.plcx_xml.specs.Reading.{Parts, parts_at}
 use Rattle.plcx_xml.specs.Reads.{span_between, attribute_of, attribute_at, value_of, many, many_then}
 use Rattle.plcx_xml.proofs.ManyTimes.{many-none, many-some}
-use Rattle.plcx_xml.proofs.Steps.{some_inj, bind_some}
+use Rattle.plcx_xml.proofs.Steps.{bind_some}
 use Rattle.plcx_xml.proofs.WrittenLaws.{map_some, written-sound, written-again}
 use Rattle.plcx_xml.proofs.Values.{Named, parts-sound, parts-again}
 

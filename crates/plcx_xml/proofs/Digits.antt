@@ -1,15 +1,15 @@
 -- Numbers of digits, and the characters of those numbers.
-use Rattle.std.proofs.Common.{◌≡◌, ◌<◌, ◌≤◌, ℕ, zero, suc, ◌+◌, ◌*◌, Bool, true, false, ◌&&◌, ◌||◌, List, [], ◌∷◌, ◌++◌, length, take, drop, refl, ap, sym, subst, ◌∙◌, ◌⊎◌, inl, inr, arith, cond, get_or, None, Some, nat_lt, nat_eq, nat_le, add-one, drop-cons}
+use Rattle.std.proofs.Common.{◌≡◌, ◌<◌, ◌≤◌, ℕ, zero, suc, ◌+◌, ◌*◌, Bool, true, false, ◌&&◌, List, [], ◌∷◌, length, take, drop, refl, ap, sym, subst, ◌∙◌, arith, get_or, None, Some, nat_lt}
 use Rattle.std.specs.Prelude.{fold}
 use Rattle.std.specs.declared.option.Option.{Option}
 use Rattle.std.specs.Char.{digit_value, IsScalar}
 use Rattle.std.specs.Option.{SomeIff}
 use Rattle.std.specs.List.{list_all}
 use Rattle.std.proofs.Math.Nat.{le-mul_of_pos_right}
-use Rattle.std.proofs.lemmas.Bool.{lt-leb, le-leb, lt-ltb}
-use Rattle.std.proofs.lemmas.List.{take_all, take_more, take-append-drop}
+use Rattle.std.proofs.lemmas.Bool.{lt-ltb}
+use Rattle.std.proofs.lemmas.List.{take_all, take-append-drop}
 use Rattle.std.proofs.lemmas.List.Sums.{fold-append}
-use Rattle.plcx_xml.specs.Character.{is_character, is_between}
+use Rattle.plcx_xml.specs.Character.{is_character}
 use Rattle.plcx_xml.specs.Reference.{are_digits, number, numbered}
 
 abbrev with_digit : ℕ → ℕ → ℕ → ℕ

@@ -1,5 +1,5 @@
 -- What stands before the first of some bytes.
-use Rattle.std.proofs.Common.{◌≡◌, ◌<◌, ◌≤◌, ℕ, suc, ◌+◌, Bool, true, false, List, [], ◌∷◌, ◌++◌, length, take, drop, refl, ap, sym, subst, ◌∙◌, ◌⊎◌, inl, inr, arith, cond, None, Some, append_assoc, append-nil, length-append, get_or, add-one, drop-cons}
+use Rattle.std.proofs.Common.{◌≡◌, ◌<◌, ◌≤◌, ℕ, ◌+◌, Bool, true, false, List, [], ◌∷◌, ◌++◌, length, take, drop, refl, ap, sym, subst, ◌∙◌, ◌⊎◌, inl, inr, arith, None, Some, append_assoc, append-nil, length-append, get_or, add-one, drop-cons}
 use Rattle.std.proofs.lemmas.List.{take_more, take_at, drop_at, drop_all, take-append-drop, take-append-le, drop-append-le}
 use Rattle.std.specs.declared.option.Option.{Option}
 use Rattle.std.specs.Option.{option_map}

@@ -1,23 +1,18 @@
 -- What the end of the file says of its tree.
-use Rattle.std.proofs.Common.{◌≡◌, ◌<◌, ◌≤◌, ℕ, ◌+◌, ◌-◌, Bool, true, false, List, [], ◌∷◌, ◌++◌, length, take, drop, refl, ap, sym, subst, ◌∙◌, ◌⊎◌, inl, inr, arith, cond, None, Some, Ok, Err, append_assoc, append-nil, length-drop}
-use Rattle.std.specs.Prelude.{IfOk, IfErr, MatchResult}
+use Rattle.std.proofs.Common.{◌≡◌, ◌<◌, ◌≤◌, ℕ, ◌-◌, Bool, true, false, List, [], ◌∷◌, ◌++◌, length, refl, ap, sym, subst, ◌∙◌, inl, inr, arith, None, Some}
 use Rattle.std.specs.declared.option.Option.{Option}
-use Rattle.std.specs.declared.result.Result.{Result}
 use Rattle.std.specs.List.{flat_map, list_all}
 use Rattle.std.specs.Str.{IsUtf8, chars}
-use Rattle.std.proofs.lemmas.List.{take_all}
 use Rattle.plcx_xml.specs.Character.{is_character, front_of}
-use Rattle.plcx_xml.specs.Grammar.{StandsAt, AreTokens}
+use Rattle.plcx_xml.specs.Grammar.{StandsAt}
 use Rattle.plcx_xml.specs.Reading.{◌>>=◌}
 use Rattle.plcx_xml.specs.Reads.{token_at}
-use Rattle.plcx_xml.specs.Events.{Event, events_of_element, token_events, joined, depth_of_element}
-use Rattle.plcx_xml.specs.Nesting.{Place, outset, settled, step, run, any_depth, below_limit}
-use Rattle.plcx_xml.specs.Built.{State, Going, Deep, Broken, state_of, built_events, IsOpenAt, Ends, Outer, PartsOf, Holds, Reached}
-use Rattle.plcx_xml.specs.StandsForTree.{mark_len, BeginsWith, HasTokens, IsBlankKind, AreBlank, StandsForTree, IsTreeOf}
-use Rattle.plcx_xml.specs.Faults.{IsTokenPlace, IsFirstRefused, IsUnended, Fails, StopsAt, Stops}
+use Rattle.plcx_xml.specs.Events.{Event, events_of_element, token_events, depth_of_element}
+use Rattle.plcx_xml.specs.Nesting.{Place, outset, settled, step, run, below_limit}
+use Rattle.plcx_xml.specs.Built.{State, Going, Deep, Broken, state_of, built_events, Ends, Outer, Holds, Reached}
+use Rattle.plcx_xml.specs.StandsForTree.{BeginsWith, HasTokens, IsBlankKind, AreBlank, IsTreeOf}
+use Rattle.plcx_xml.specs.Faults.{Fails, Stops}
 use Rattle.plcx_xml.specs.declared.tree.Element.{Element}
-use Rattle.plcx_xml.specs.declared.tree.Node.{Node}
-use Rattle.plcx_xml.specs.declared.tree.Node.TheVariants as node
 use Rattle.plcx_xml.specs.declared.token.Token.{Token}
 use Rattle.plcx_xml.specs.declared.token.Kind.{Kind}
 use Rattle.plcx_xml.specs.declared.token.Kind.TheVariants as kind
@@ -25,11 +20,10 @@ use Rattle.plcx_xml.specs.declared.building.Build.{Build}
 use Rattle.plcx_xml.specs.declared.building.Build.TheVariants as build
 use Rattle.plcx_xml.specs.declared.error.XmlError.{XmlError}
 use Rattle.plcx_xml.specs.declared.error.XmlError.TheVariants as xml
-use Rattle.plcx_xml.proofs.Steps.{bind_some, some_inj, some-none}
-use Rattle.plcx_xml.proofs.TokenLaws.{token-again}
+use Rattle.plcx_xml.proofs.Steps.{some-none}
 use Rattle.plcx_xml.proofs.TreeRuns.{run_events, root-runs, root-deep}
 use Rattle.plcx_xml.proofs.Links.{run-split, run-any, strict-runs, lenient-runs, run-joined}
-use Rattle.plcx_xml.proofs.Reached.{here-parted, offset-next, mark-offset, front-short, token-none}
+use Rattle.plcx_xml.proofs.Reached.{here-parted, front-short, token-none}
 use Rattle.plcx_xml.proofs.Fronts.{front-known, front-within, front-full}
 
 blank-kind : (k : Kind) (c : Bool) → IsBlankKind k → step below_limit (record { names = []; closed = c }) k ≡ Some (record { names = []; closed = c })

@@ -5,16 +5,15 @@ use Rattle.std.specs.declared.option.Option.{Option}
 use Rattle.std.specs.List.{flat_map, list_all}
 use Rattle.std.specs.Str.{bytes_eq}
 use Rattle.std.proofs.lemmas.Slice.Eq.{bytes_eq-Decides}
-use Rattle.std.proofs.lemmas.List.Concat.{flat_map-append}
 use Rattle.plcx_types.specs.declared.span.Span.{Span}
 use Rattle.plcx_xml.specs.Character.{is_space}
 use Rattle.plcx_xml.specs.Reading.{◌>>=◌}
-use Rattle.plcx_xml.specs.Events.{Event, Begin, End, Chars, kind_events, token_events, with_event, after_one, both_texts, joined}
+use Rattle.plcx_xml.specs.Events.{Event, Begin, End, Chars, kind_events, token_events, with_event, after_one, joined}
 use Rattle.plcx_xml.specs.Nesting.{Place, settled, begin_step, end_step, text_step, step, run, any_depth, below_limit}
 use Rattle.plcx_xml.specs.declared.token.Token.{Token}
 use Rattle.plcx_xml.specs.declared.token.Kind.{Kind}
 use Rattle.plcx_xml.specs.declared.token.Kind.TheVariants as kind
-use Rattle.plcx_xml.proofs.Steps.{bind_some, some_inj, some-none}
+use Rattle.plcx_xml.proofs.Steps.{bind_some, some_inj}
 use Rattle.plcx_xml.proofs.TreeRuns.{event_step, chars_step, run_events, run-append, bind-assoc, bind-cong}
 
 -- tokens one behind another

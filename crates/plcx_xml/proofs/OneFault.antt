@@ -1,13 +1,10 @@
 -- A file has one first fault.
-use Rattle.std.proofs.Common.{◌≡◌, ◌<◌, ◌≤◌, ℕ, ◌+◌, ◌-◌, Bool, true, false, List, [], ◌∷◌, ◌++◌, length, drop, refl, ap, sym, subst, ◌∙◌, ◌⊎◌, inl, inr, arith, None, Some}
-use Rattle.std.specs.declared.option.Option.{Option}
-use Rattle.std.specs.Str.{IsUtf8, IsValidUpTo}
+use Rattle.std.proofs.Common.{◌≡◌, ℕ, ◌+◌, Bool, List, [], ◌∷◌, ◌++◌, length, drop, refl, ap, sym, subst, ◌∙◌, ◌⊎◌, inl, inr, arith, None, Some}
 use Rattle.std.proofs.lemmas.Str.{utf8_valid_len-IsValidUpTo}
 use Rattle.plcx_xml.specs.Character.{front_of}
 use Rattle.plcx_xml.specs.Grammar.{StandsAt, AreTokens}
-use Rattle.plcx_xml.specs.Reading.{◌>>=◌}
 use Rattle.plcx_xml.specs.Nesting.{Place, outset, settled, step, run, any_depth, below_limit}
-use Rattle.plcx_xml.specs.StandsForTree.{mark_len, HasTokens}
+use Rattle.plcx_xml.specs.StandsForTree.{mark_len}
 use Rattle.plcx_xml.specs.Faults.{IsTokenPlace, IsFirstRefused, IsUnended, Fails}
 use Rattle.plcx_xml.specs.declared.token.Token.{Token}
 use Rattle.plcx_xml.specs.declared.error.XmlError.{XmlError}

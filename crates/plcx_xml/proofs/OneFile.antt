@@ -1,11 +1,10 @@
 -- A file has one list of tokens at most, and no tree where it has a fault.
-use Rattle.std.proofs.Common.{◌≡◌, ◌<◌, ◌≤◌, ℕ, ◌+◌, ◌-◌, Bool, true, false, List, [], ◌∷◌, ◌++◌, length, drop, refl, ap, sym, subst, ◌∙◌, ◌⊎◌, inl, inr, arith, None, Some, append-nil, length-append}
+use Rattle.std.proofs.Common.{◌≡◌, ◌<◌, ℕ, ◌+◌, Bool, true, false, List, [], ◌∷◌, ◌++◌, length, drop, refl, ap, sym, subst, ◌∙◌, ◌⊎◌, inl, inr, arith, None, Some, append-nil}
 use Rattle.std.specs.declared.option.Option.{Option}
 use Rattle.plcx_xml.specs.Character.{front_of}
 use Rattle.plcx_xml.specs.Grammar.{StandsAt, AreTokens}
 use Rattle.plcx_xml.specs.Reading.{◌>>=◌}
-use Rattle.plcx_xml.specs.Reads.{token_at}
-use Rattle.plcx_xml.specs.Nesting.{Place, outset, settled, step, run, any_depth, below_limit}
+use Rattle.plcx_xml.specs.Nesting.{Place, outset, settled, run, any_depth, below_limit}
 use Rattle.plcx_xml.specs.StandsForTree.{mark_len, BeginsWith, HasTokens, IsTreeOf}
 use Rattle.plcx_xml.specs.Faults.{IsTokenPlace, IsFirstRefused, IsUnended, Fails}
 use Rattle.plcx_xml.specs.declared.tree.Element.{Element}

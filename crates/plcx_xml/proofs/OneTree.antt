@@ -1,19 +1,18 @@
 -- Bytes stand for one tree at most: their tokens are settled, and so is the tree by what begins and ends in it.
-use Rattle.std.proofs.Common.{◌≡◌, ◌<◌, ℕ, ◌+◌, List, [], ◌∷◌, ◌++◌, length, map, refl, ap, sym, subst, ◌∙◌, arith, append_assoc, append-nil, Some}
+use Rattle.std.proofs.Common.{◌≡◌, ◌<◌, ℕ, List, [], ◌∷◌, ◌++◌, length, map, refl, ap, sym, subst, ◌∙◌, arith, append_assoc, append-nil}
 use Rattle.std.specs.Prelude.{⊤, fold}
 use Rattle.std.specs.List.{flat_map}
 use Rattle.std.proofs.lemmas.List.Concat.{flat_map-append}
 use Rattle.std.proofs.lemmas.List.Sums.{fold-append}
 use Rattle.plcx_types.specs.declared.span.Span.{Span}
-use Rattle.plcx_xml.specs.Grammar.{StandsAt, AreTokens}
-use Rattle.plcx_xml.specs.Events.{Event, Begin, End, Chars, events_of, events_of_element, node_events, element_events, token_events, kind_events, with_event, after_one, both_texts, joined}
-use Rattle.plcx_xml.specs.StandsForTree.{IsBlankKind, AreBlank, HasTokens, StandsForTree}
+use Rattle.plcx_xml.specs.Events.{Event, Begin, End, Chars, events_of, events_of_element, token_events, kind_events, with_event, joined}
+use Rattle.plcx_xml.specs.StandsForTree.{IsBlankKind, AreBlank, StandsForTree}
 use Rattle.plcx_xml.specs.declared.token.Token.{Token}
 use Rattle.plcx_xml.specs.declared.token.Kind.{Kind}
 use Rattle.plcx_xml.specs.declared.token.Kind.TheVariants as kind
 use Rattle.plcx_xml.specs.declared.tree.Attribute.{Attribute}
 use Rattle.plcx_xml.specs.declared.tree.Text.{Text}
-use Rattle.plcx_xml.specs.declared.tree.Node.{Node, ind-Node, roll-Node}
+use Rattle.plcx_xml.specs.declared.tree.Node.{Node, roll-Node}
 use Rattle.plcx_xml.specs.declared.tree.Node.TheFolds.{map-Node, map-Element}
 use Rattle.plcx_xml.specs.declared.tree.Node.TheOpen.{Node-F, Element-F}
 use Rattle.plcx_xml.specs.declared.tree.Element.{Element, roll-Element, ind-Element}

@@ -1,5 +1,5 @@
 -- Reading a value piece by piece.
-use Rattle.std.proofs.Common.{◌≡◌, ◌<◌, ◌≤◌, ◌++◌, ◌+◌, ◌-◌, [], ◌∷◌, ℕ, suc, zero, List, sym, subst, ◌∙◌, ap, refl, append_assoc, append-nil, arith, None, Some}
+use Rattle.std.proofs.Common.{◌≡◌, ◌<◌, ◌≤◌, ◌++◌, ◌+◌, ◌-◌, [], ◌∷◌, ℕ, suc, List, subst, ◌∙◌, ap, append_assoc, arith, None, Some}
 use Rattle.std.specs.List.{flat_map}
 use Rattle.plcx_xml.specs.Pieces.{Pieced}
 use Rattle.plcx_xml.specs.Reads.{many, piece_at}

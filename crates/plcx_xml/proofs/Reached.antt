@@ -1,5 +1,5 @@
 -- How far reading has come, token by token.
-use Rattle.std.proofs.Common.{◌≡◌, ◌<◌, ◌≤◌, ℕ, ◌+◌, ◌-◌, Bool, true, false, List, [], ◌∷◌, ◌++◌, length, take, drop, refl, ap, sym, subst, ◌∙◌, ◌⊎◌, inl, inr, arith, cond, None, Some, append_assoc, append-nil, length-append, length-drop}
+use Rattle.std.proofs.Common.{◌≡◌, ◌<◌, ◌≤◌, ℕ, ◌+◌, ◌-◌, Bool, true, false, List, [], ◌∷◌, ◌++◌, length, take, drop, refl, ap, sym, subst, ◌∙◌, arith, cond, None, Some, append_assoc, length-append, length-drop}
 use Rattle.std.specs.declared.option.Option.{Option}
 use Rattle.std.specs.Str.{bytes_eq}
 use Rattle.std.proofs.lemmas.Slice.Eq.{bytes_eq-Decides}
@@ -18,7 +18,7 @@ use Rattle.plcx_xml.specs.declared.token.Kind.{Kind}
 use Rattle.plcx_xml.specs.declared.token.Kind.TheVariants as kind
 use Rattle.plcx_xml.specs.declared.building.Build.{Build}
 use Rattle.plcx_xml.specs.declared.building.Build.TheVariants as build
-use Rattle.plcx_xml.proofs.Steps.{bind_some, some_inj, some-none}
+use Rattle.plcx_xml.proofs.Steps.{some-none}
 use Rattle.plcx_xml.proofs.TokenLaws.{token-sound, token-again}
 use Rattle.plcx_xml.proofs.TreeParts.{parts-step}
 use Rattle.plcx_xml.proofs.Links.{run-split, run-any}

@@ -1,12 +1,12 @@
 -- A text that is put behind others joins the last of them.
-use Rattle.std.proofs.Common.{◌≡◌, ℕ, List, [], ◌∷◌, ◌++◌, map, refl, ap, sym, subst, ◌∙◌, append_assoc, append-nil}
+use Rattle.std.proofs.Common.{◌≡◌, ℕ, List, [], ◌∷◌, ◌++◌, map, refl, ap, sym, ◌∙◌, append_assoc, append-nil}
 use Rattle.std.specs.Prelude.{reverse}
 use Rattle.std.specs.List.{flat_map}
 use Rattle.std.proofs.lemmas.List.{map-append, reverse-append}
 use Rattle.std.proofs.lemmas.List.Concat.{flat_map-append}
 use Rattle.plcx_types.specs.declared.span.Span.{Span}
 use Rattle.plcx_xml.specs.Built.{opened, frame_names, with_text}
-use Rattle.plcx_xml.specs.Events.{Event, Begin, End, Chars, events_of, events_of_element, with_event, after_one, both_texts}
+use Rattle.plcx_xml.specs.Events.{Event, Begin, End, Chars, events_of, events_of_element, with_event}
 use Rattle.plcx_xml.specs.declared.building.Frame.{Frame}
 use Rattle.plcx_xml.specs.declared.tree.Attribute.{Attribute}
 use Rattle.plcx_xml.specs.declared.tree.Text.{Text}

@@ -10,13 +10,12 @@ use Rattle.plcx_xml.specs.declared.token.Kind.{Kind}
 use Rattle.plcx_xml.specs.declared.token.Kind.TheVariants as kind
 use Rattle.plcx_xml.specs.Character.{is_first, is_space, is_text}
 use Rattle.std.specs.Char.{encode_utf8}
-use Rattle.std.specs.Option.{option_map}
 use Rattle.std.specs.Prelude.{codes}
 use Rattle.plcx_xml.specs.Grammar.{Stops, IsName, SpellsReference, SpellsEnclosed, SpellsEnd, SpellsTag, SpellsKind, IsWhole, StandsAt, span_from}
 use Rattle.plcx_xml.specs.Reading.{run_at, behind_space, text_at, close_at, begin_at, end_at, reference_at, behind, enclosed_at}
 use Rattle.plcx_xml.specs.Reads.{span_between, attributes_at, token_of, end_token, text_token, tag_kind, tag_behind, tag_token, reference_token, comment_token, instruction_token, cdata_token, other_token, or_else, token_at}
 use Rattle.plcx_xml.proofs.Runs.{run-sound, apart, stops_at_head, heads_append}
-use Rattle.plcx_xml.proofs.Steps.{bind_some, byte-again, byte-not, name-not, text-sound, text-again, text-not, long-heads}
+use Rattle.plcx_xml.proofs.Steps.{bind_some, text-sound, text-again, text-not, long-heads}
 use Rattle.plcx_xml.proofs.WrittenLaws.{map_some, reference-sound, reference-again, reference-not}
 use Rattle.plcx_xml.proofs.Enclosing.{enclosed-sound, enclosed-again, enclosed-not}
 use Rattle.plcx_xml.proofs.AttributeLaws.{attributes-sound, attributes-again}

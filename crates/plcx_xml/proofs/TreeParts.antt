@@ -8,15 +8,15 @@ use Rattle.std.proofs.lemmas.List.Concat.{flat_map-append}
 use Rattle.std.proofs.lemmas.List.Sums.{fold-append}
 use Rattle.plcx_types.specs.declared.span.Span.{Span}
 use Rattle.plcx_xml.specs.Character.{is_space}
-use Rattle.plcx_xml.specs.Events.{Event, Begin, End, Chars, token_events, kind_events, joined, with_event}
-use Rattle.plcx_xml.specs.Nesting.{Place, is_nil, settled, begin_step, end_step, text_step, step, below_limit}
-use Rattle.plcx_xml.specs.Built.{with_text, with_token, Inner, Outer, PartsOf}
+use Rattle.plcx_xml.specs.Events.{Event, Begin, End, Chars, token_events, joined, with_event}
+use Rattle.plcx_xml.specs.Nesting.{Place, is_nil, settled, end_step, text_step, step, below_limit}
+use Rattle.plcx_xml.specs.Built.{with_text, with_token, Inner, PartsOf}
 use Rattle.plcx_xml.specs.StandsForTree.{IsBlankKind, AreBlank}
 use Rattle.plcx_xml.specs.declared.tree.Attribute.{Attribute}
 use Rattle.plcx_xml.specs.declared.token.Token.{Token}
 use Rattle.plcx_xml.specs.declared.token.Kind.{Kind}
 use Rattle.plcx_xml.specs.declared.token.Kind.TheVariants as kind
-use Rattle.plcx_xml.proofs.Steps.{bind_some, guard_some, some_inj}
+use Rattle.plcx_xml.proofs.Steps.{guard_some, some_inj}
 use Rattle.plcx_xml.proofs.Texts.{with-begin, with-ended}
 
 AreBlank-append : (xs : List Token) (t : Token) → AreBlank xs → IsBlankKind t.kind → AreBlank (xs ++ t ∷ [])

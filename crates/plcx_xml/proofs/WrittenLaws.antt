@@ -1,18 +1,18 @@
 -- References, and a value that is written with them: what is read is what is spelled.
-use Rattle.std.proofs.Common.{◌≡◌, ◌<◌, ◌≤◌, ℕ, zero, suc, ◌+◌, Bool, true, false, List, [], ◌∷◌, ◌++◌, length, drop, refl, ap, sym, subst, ◌∙◌, ◌⊎◌, inl, inr, arith, cond, None, Some, append_assoc, length-append, nat_eq}
+use Rattle.std.proofs.Common.{◌≡◌, ◌<◌, ◌≤◌, ℕ, zero, suc, ◌+◌, Bool, true, false, List, [], ◌∷◌, ◌++◌, length, refl, ap, sym, subst, ◌∙◌, ◌⊎◌, inl, inr, arith, cond, None, Some, append_assoc, length-append, nat_eq}
 use Rattle.std.specs.declared.option.Option.{Option}
 use Rattle.std.specs.Option.{option_map}
 use Rattle.std.specs.Char.{encode_utf8}
-use Rattle.std.specs.List.{list_all, flat_map}
+use Rattle.std.specs.List.{flat_map}
 use Rattle.std.proofs.lemmas.Bool.{eqb-true}
 use Rattle.std.proofs.lemmas.List.{take_at, drop_at}
 use Rattle.plcx_xml.specs.Character.{is_plain, is_named}
 use Rattle.plcx_xml.specs.Reference.{character_named}
-use Rattle.plcx_xml.specs.Grammar.{Stops, Heads, SpellsReference, SpellsPiece, Plain, Named, SpellsPieces, SpellsValue}
+use Rattle.plcx_xml.specs.Grammar.{Stops, SpellsReference, SpellsPiece, Plain, Named, SpellsPieces, SpellsValue}
 use Rattle.plcx_xml.specs.Reading.{◌>>=◌, starts, run_at, byte_at, reference_at}
 use Rattle.plcx_xml.specs.Reads.{piece_at, value_of, joined_pieces, many, many_then}
 use Rattle.plcx_xml.proofs.ManyTimes.{many-none, many-some}
-use Rattle.plcx_xml.proofs.Runs.{run-sound, run-again, prefix_len-again, run-heads, starts-sound, starts-again, starts-not, heads_append, true_or_false}
+use Rattle.plcx_xml.proofs.Runs.{run-sound, run-again, prefix_len-again, run-heads, starts-sound, starts-again, starts-not, heads_append}
 use Rattle.plcx_xml.proofs.Steps.{bind_some, guard_some, some_inj, byte-sound, byte-again, byte-not, heads-long, long-heads}
 
 pub map_some : {A B : Type 0} (f : A → B) (o : Option A) (b : B) → option_map f o ≡ Some b → (a : A) × (o ≡ Some a) × (f a ≡ b)

@@ -3,6 +3,7 @@ use Rattle.std.specs.Prelude.{ℕ, Bool, true, false, not, ◌||◌, List, [], �
 use Rattle.std.specs.declared.option.Option.{Option}
 use Rattle.std.specs.List.{list_all}
 use Rattle.std.specs.Str.{bytes_eq}
+use Rattle.plcx_types.specs.Limits.{max_element_depth}
 use Rattle.plcx_xml.specs.Character.{is_space}
 use Rattle.plcx_xml.specs.Reading.{◌>>=◌}
 use Rattle.plcx_xml.specs.declared.token.Kind.{Kind}
@@ -58,6 +59,6 @@ run allows (t ∷ ts) p = step allows p t.kind >>= run allows ts
 abbrev pub any_depth : ℕ → Bool
 any_depth n = true
 
--- at most 64 elements in one another
+-- so many elements may lie in one another
 abbrev pub below_limit : ℕ → Bool
-below_limit n = nat_lt n 64
+below_limit n = nat_lt n max_element_depth

@@ -2,6 +2,7 @@
 use Rattle.std.specs.Prelude.{◌≡◌, ◌≤◌, ℕ, true, List, [], ◌∷◌, ◌++◌, take, drop, ⊤, if◌then◌else◌}
 use Rattle.std.specs.List.{list_all, flat_map}
 use Rattle.std.specs.Str.{IsUtf8, chars, bytes_eq}
+use Rattle.plcx_types.specs.Limits.{max_element_depth}
 use Rattle.plcx_xml.specs.Character.{is_space, is_character}
 use Rattle.plcx_xml.specs.Grammar.{AreTokens}
 use Rattle.plcx_xml.specs.Events.{token_events, joined, events_of_element, depth_of_element}
@@ -51,4 +52,4 @@ pub record StandsForTree (bytes : List ℕ) (root : Element) : Type 0 where
 -- a tree that isn't deeper than what is read
 pub record IsTreeOf (bytes : List ℕ) (root : Element) : Type 0 where
   pub stands : StandsForTree bytes root
-  pub depth : depth_of_element root ≤ 64
+  pub depth : depth_of_element root ≤ max_element_depth

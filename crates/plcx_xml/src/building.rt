@@ -1,5 +1,5 @@
 //! A tree out of its tokens, by a stack of the open elements.
-ghost use Rattle.std.specs.Prelude.{◌≡◌, [], ◌∷◌, ◌++◌, Bool, false, true, map, reverse, IfOk, OnOk, MatchResult};
+ghost use Rattle.std.specs.Prelude.{◌≡◌, [], ◌∷◌, ◌++◌, Bool, false, true, not, length, map, reverse, IfOk, OnOk, MatchResult};
 ghost use Rattle.std.specs.List.{flat_map, list_all};
 ghost use Rattle.plcx_xml.specs.Character.{is_space};
 ghost use Rattle.plcx_xml.specs.Events.{Begin, Chars, End, events_of, events_of_element, kind_events, with_event};
@@ -13,11 +13,9 @@ use crate::lexing::is_blank;
 use crate::token::{Kind, Token};
 use crate::tree::{Attribute, Element, Node, Text};
 use plcx_types::Span;
+use plcx_types::limits::MAX_ELEMENT_DEPTH;
 use sqlite_items::Items;
 use std::alloc::{AllocError, Global};
-
-/// How many elements may lie in one another.
-const MAX_DEPTH: usize = 64;
 
 /// An element that is open.
 #[derive(Drop)]
@@ -134,6 +132,13 @@ fn put_text(
     }
 }
 
+/// Whether so many elements are open that no more may lie in them.
+fn is_full(frames: &[Frame]) -> bool
+    ensures { result ≡ not (below_limit (length frames.now)) }
+{
+    frames.len() >= MAX_ELEMENT_DEPTH
+}
+
 /// The names of these elements, the outermost first.
 fn names_of(alloc: Global, frames: &[Frame]) -> Result<Vec<Items<u8>>, AllocError>
     ensures { IfOk result (λ names. names.items ≡ map (λ (f : Frame). f.name) frames.now) }
@@ -156,7 +161,7 @@ fn begin(
     ensures state { IfOk result (λ build. state_of build ≡ next (Going (open_place frames.items)) (kind.Start name attributes) start) }
     ensures events { IfOk result (λ build. Keeps build (flat_map opened frames.items ++ Begin name attributes start ∷ [])) }
 {
-    if frames.len() >= MAX_DEPTH {
+    if is_full(frames.as_slice()) {
         let mut names = names_of(alloc, frames.as_slice())?;
         names.push(name)?;
         return Ok(Build::Deep { names, at: start });
@@ -206,7 +211,7 @@ fn empty(
     ensures events { IfOk result (λ build. Keeps build
         (flat_map opened frames.items ++ kind_events (kind.Empty name attributes) span)) }
 {
-    if frames.len() >= MAX_DEPTH {
+    if is_full(frames.as_slice()) {
         let names = names_of(alloc, frames.as_slice())?;
         return Ok(Build::Deep {
             names,

@@ -1,4 +1,4 @@
-use Rattle.std.proofs.Common.{◌≡◌, List, [], ◌∷◌, ◌++◌, ap, sym, ◌∙◌}
+use Rattle.std.proofs.Common.{[], ◌∷◌, ◌++◌, ap}
 use Rattle.plcx_xml.specs.declared.tree.Node.{Node}
 use Rattle.plcx_xml.proofs.Texts.{into-text, behind-element}
 use Rattle.plcx_xml.proofs.building.put_behind.Goals as goal

@@ -1,4 +1,4 @@
-use Rattle.std.proofs.Common.{◌≡◌, ◌∙◌, ap, sym, take, rules}
+use Rattle.std.proofs.Common.{◌∙◌, ap, take, rules}
 use Rattle.std.proofs.lemmas.Fn.{always_returns_same}
 use Rattle.plcx_xml.proofs.Fronts.{front-all, front-some, unknown}
 use Rattle.plcx_xml.proofs.front.front_of.Goals as goal

@@ -1,8 +1,7 @@
-use Rattle.std.proofs.Common.{◌≡◌, ◌<◌, ◌-◌, length, List, ap, sym, subst, tests, rules}
+use Rattle.std.proofs.Common.{◌<◌, length, ap, sym, tests, rules}
 use Rattle.std.specs.List.{flat_map}
-use Rattle.plcx_xml.specs.Built.{Reached, opened, open_place, Going}
-use Rattle.plcx_xml.specs.Faults.{StopsAt}
-use Rattle.plcx_xml.proofs.Ending.{stops-here, nothing_left}
+use Rattle.plcx_xml.specs.Built.{opened, open_place, Going}
+use Rattle.plcx_xml.proofs.Ending.{stops-here}
 use Rattle.plcx_xml.proofs.Reached.{reached-outset, reached-step, token-shorter}
 use Rattle.plcx_xml.proofs.reading.build_of.Goals as goal
 

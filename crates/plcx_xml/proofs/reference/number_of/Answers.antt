@@ -1,4 +1,4 @@
-use Rattle.std.proofs.Common.{◌∙◌, ◌<◌, length, sym, arith, rules, tests}
+use Rattle.std.proofs.Common.{◌∙◌, ◌<◌, length, sym, rules, tests}
 use Rattle.plcx_xml.proofs.Digits.{past-last, no-digit, all-digits, not-character}
 use Rattle.plcx_xml.proofs.reference.number_of.Goals as goal
 

@@ -1,4 +1,4 @@
-use Rattle.std.proofs.Common.{◌≡◌, ◌<◌, take, true, nat_lt}
+use Rattle.std.proofs.Common.{◌≡◌, take, true, nat_lt}
 use Rattle.std.specs.List.{list_all}
 use Rattle.std.specs.Char.{digit_value}
 use Rattle.plcx_xml.specs.Reference.{number}

@@ -1,5 +1,5 @@
-use Rattle.std.proofs.Common.{◌≡◌, ◌++◌, List, ℕ, sym, subst}
-use Rattle.plcx_xml.specs.Pieces.{Pieced, shown}
+use Rattle.std.proofs.Common.{◌≡◌, ◌++◌}
+use Rattle.plcx_xml.specs.Pieces.{shown}
 use Rattle.plcx_xml.proofs.PiecesRead.{pieces-end, pieces-turn}
 use Rattle.plcx_xml.proofs.value.pieces_of.Goals as goal
 
