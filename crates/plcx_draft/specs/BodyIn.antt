@@ -31,15 +31,19 @@ use Rattle.plcx_draft.specs.Parts.{parts_of, parts_in, first_part, first_child, 
 unfoldable pub is_marked : List ℕ → Element → Bool
 is_marked name e = bytes_eq (attribute_of name e) (codes "true") || bytes_eq (attribute_of name e) (codes "1")
 
+-- `rising`, `falling`, or none
 unfoldable pub edge_in : List ℕ → Edge
 edge_in text = if bytes_eq text (codes "rising") then edge.Rising else (if bytes_eq text (codes "falling") then edge.Falling else edge.Plain)
 
+-- `set`, `reset`, or none
 unfoldable pub storage_in : List ℕ → Storage
 storage_in text = if bytes_eq text (codes "set") then storage.Set else (if bytes_eq text (codes "reset") then storage.Reset else storage.Plain)
 
+-- the modifiers of an element or a pin
 unfoldable pub modifiers_in : Element → Mods
 modifiers_in e = record { negated = is_marked (codes "negated") e; edge = edge_in (attribute_of (codes "edge") e); storage = storage_in (attribute_of (codes "storage") e) }
 
+-- a connection, if the element is one
 unfoldable pub connection_in : Element → Option Connection
 connection_in e = if bytes_eq (name_of e) (codes "connection")
     then Some (record { element = number_at (codes "refLocalId") e; formal = attribute_of (codes "formalParameter") e }) else None
@@ -48,6 +52,7 @@ connection_in e = if bytes_eq (name_of e) (codes "connection")
 unfoldable pub input_of : Element → List Connection
 input_of e = parts_in connection_in (first_child (codes "connectionPointIn") e)
 
+-- the connections of one point of a right rail
 abbrev pub rail_point : Node-F Node Element → List Connection
 rail_point (Node-F.Element e) = if bytes_eq (name_of e) (codes "connectionPointIn") then parts_of connection_in e else []
 rail_point (Node-F.Text t) = []
@@ -56,10 +61,12 @@ rail_point (Node-F.Text t) = []
 unfoldable pub rail_input : Element → List Connection
 rail_input e = flat_map (λ (n : Node). rail_point (out-Node n)) (children_of e)
 
+-- a pin with its connections, if the element is one
 unfoldable pub input_pin : Element → Option PinIn
 input_pin e = if bytes_eq (name_of e) (codes "variable")
     then Some (record { formal = attribute_of (codes "formalParameter") e; mods = modifiers_in e; input = input_of e }) else None
 
+-- an output pin, if the element is one
 unfoldable pub output_pin : Element → Option PinOut
 output_pin e = if bytes_eq (name_of e) (codes "variable") then Some (record { formal = attribute_of (codes "formalParameter") e; mods = modifiers_in e }) else None
 
@@ -67,6 +74,7 @@ output_pin e = if bytes_eq (name_of e) (codes "variable") then Some (record { fo
 abbrev pub nonempty : List ℕ → Option (List ℕ)
 nonempty text = if bytes_eq text [] then None else Some text
 
+-- a block with its pins in their order
 unfoldable pub block_in : Element → Kind
 block_in e = kind.Block (attribute_of (codes "typeName") e) (nonempty (attribute_of (codes "instanceName") e))
     (parts_in input_pin (first_child (codes "inputVariables") e)) (parts_in input_pin (first_child (codes "inOutVariables") e))
@@ -88,10 +96,12 @@ kind_in LeftRail e = Some kind.LeftRail
 kind_in RightRail e = Some (kind.RightRail (rail_input e))
 kind_in _ e = None
 
+-- a coordinate, or 0 where there is none
 abbrev pub coordinate_or : Option ℤ → ℤ
 coordinate_or None = pos 0
 coordinate_or (Some n) = n
 
+-- a coordinate of a position; without a position it is 0
 abbrev pub coordinate_at : List ℕ → Option Element → ℤ
 coordinate_at name None = pos 0
 coordinate_at name (Some position) = coordinate_or (coordinate_of (attribute_of name position))
@@ -100,6 +110,7 @@ coordinate_at name (Some position) = coordinate_or (coordinate_of (attribute_of 
 unfoldable pub order_in : Element → Option ℕ
 order_in e = option_and_then number_of (first (values_of (codes "executionOrderId") e))
 
+-- an element with its number, order and position
 abbrev pub placed_at : Element → Option Element → Kind → BodyElement
 placed_at e position k = record {
   local_id = number_at (codes "localId") e;
@@ -113,6 +124,7 @@ placed_at e position k = record {
 abbrev pub skipped : Element → BodyElement
 skipped e = record { local_id = number_at (codes "localId") e; order = None; x = pos 0; y = pos 0; kind = kind.Skipped }
 
+-- an element that is read or skipped
 abbrev pub element_as : Option Fate → Element → Option BodyElement
 element_as (Some (Read row)) e = option_map (placed_at e (first_child (codes "position") e)) (kind_in row e)
 element_as (Some (Skipped row)) e = Some (skipped e)
@@ -122,12 +134,15 @@ element_as _ e = None
 unfoldable pub element_in : Element → Option BodyElement
 element_in e = element_as (fate_for Diagram e) e
 
+-- the elements of a diagram
 abbrev pub body_of : Bool → Element → Body
 body_of ladder e = record { ladder = ladder; elements = parts_of element_in e }
 
+-- a diagram, if the element is one
 unfoldable pub diagram_in : Element → Option Body
 diagram_in e = if bytes_eq (name_of e) (codes "FBD") then Some (body_of false e) else (if bytes_eq (name_of e) (codes "LD") then Some (body_of true e) else None)
 
+-- a body, or an empty one where there is none
 abbrev pub body_or : Option Body → Body
 body_or None = record { ladder = false; elements = [] }
 body_or (Some b) = b

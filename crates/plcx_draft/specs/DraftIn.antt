@@ -21,6 +21,7 @@ use Rattle.plcx_draft.specs.declared.draft.Draft.{Draft}
 use Rattle.plcx_draft.specs.Parts.{parts_of, parts_in, first_part, first_child}
 use Rattle.plcx_draft.specs.BodyIn.{is_marked, body_in}
 
+-- an elementary type
 abbrev pub plain_type : Option Ty → Option DraftType
 plain_type None = None
 plain_type (Some t) = Some (Plain t)
@@ -29,13 +30,16 @@ plain_type (Some t) = Some (Plain t)
 unfoldable pub type_of : Element → Option DraftType
 type_of e = if bytes_eq (name_of e) (codes "derived") then Some (Derived (attribute_of (codes "name") e)) else plain_type (type_named (name_of e))
 
+-- a type, or one without a name where there is none
 abbrev pub type_or : Option DraftType → DraftType
 type_or None = Derived []
 type_or (Some t) = t
 
+-- the type of a variable
 unfoldable pub type_in : Element → DraftType
 type_in e = type_or (option_and_then (first_part type_of) (first_child (codes "type") e))
 
+-- the value of an element, if it is there
 abbrev pub value_at : Option Element → Option (List ℕ)
 value_at None = None
 value_at (Some e) = Some (attribute_of (codes "value") e)
@@ -44,6 +48,7 @@ value_at (Some e) = Some (attribute_of (codes "value") e)
 unfoldable pub initial_in : Element → Option (List ℕ)
 initial_in e = value_at (option_and_then (first_child (codes "simpleValue")) (first_child (codes "initialValue") e))
 
+-- a variable, if the element is one
 unfoldable pub variable_in : Element → Option DraftVariable
 variable_in e = if bytes_eq (name_of e) (codes "variable") then Some (record {
   name = attribute_of (codes "name") e;
@@ -53,10 +58,12 @@ variable_in e = if bytes_eq (name_of e) (codes "variable") then Some (record {
   start = start_of e;
 }) else None
 
+-- the class of a list, by the list's name
 unfoldable pub class_named : List ℕ → Option ListClass
 class_named name = if bytes_eq name (codes "localVars") then Some Local else (if bytes_eq name (codes "inputVars") then Some Input
     else (if bytes_eq name (codes "outputVars") then Some Output else (if bytes_eq name (codes "inOutVars") then Some InOut else None)))
 
+-- the marks of in-outs are ignored
 abbrev pub takes_marks : ListClass → Bool
 takes_marks InOut = false
 takes_marks _ = true
@@ -70,12 +77,15 @@ list_of e class = record {
   variables = parts_of variable_in e;
 }
 
+-- a list of variables, if the element is one
 unfoldable pub list_in : Element → Option DraftList
 list_in e = option_map (list_of e) (class_named (name_of e))
 
+-- a program, or else a function block
 abbrev pub kind_of : List ℕ → PouKind
 kind_of text = if bytes_eq text (codes "program") then Program else FunctionBlock
 
+-- a POU, if the element is one
 unfoldable pub pou_in : Element → Option DraftPou
 pou_in e = if bytes_eq (name_of e) (codes "pou") then Some (record {
   name = attribute_of (codes "name") e;

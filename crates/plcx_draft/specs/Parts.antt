@@ -8,6 +8,7 @@ use Rattle.plcx_xml.specs.declared.tree.Element.{Element}
 use Rattle.plcx_table.specs.Walk.{first}
 use Rattle.plcx_table.specs.Constructs.{or_empty}
 
+-- what a part of an element is read as; text is nothing
 abbrev pub part_in : {A : Type 0} → (Element → Option A) → Node-F Node Element → Option A
 part_in part (Node-F.Element e) = part e
 part_in part (Node-F.Text t) = None
@@ -21,6 +22,7 @@ abbrev pub parts_in : {A : Type 0} → (Element → Option A) → Option Element
 parts_in part None = []
 parts_in part (Some e) = parts_of part e
 
+-- the first child that is such a part
 unfoldable pub first_part : {A : Type 0} → (Element → Option A) → Element → Option A
 first_part part e = first (parts_of part e)
 
@@ -28,9 +30,11 @@ first_part part e = first (parts_of part e)
 abbrev pub named : List ℕ → Element → Option Element
 named name e = if bytes_eq (name_of e) name then Some e else None
 
+-- the first child of a name
 unfoldable pub first_child : List ℕ → Element → Option Element
 first_child name e = first_part (named name) e
 
+-- the text of a part that is text
 abbrev pub text_in : Node-F Node Element → Option (List ℕ)
 text_in (Node-F.Element e) = None
 text_in (Node-F.Text t) = Some t.value
@@ -39,6 +43,7 @@ text_in (Node-F.Text t) = Some t.value
 unfoldable pub text_of : Element → List ℕ
 text_of e = or_empty (first (filter_map (λ (n : Node). text_in (out-Node n)) (children_of e)))
 
+-- the text of an element, if it is there
 abbrev pub text_in_some : Option Element → List ℕ
 text_in_some None = []
 text_in_some (Some e) = text_of e

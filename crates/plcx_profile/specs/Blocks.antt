@@ -7,6 +7,7 @@ use Rattle.plcx_model.specs.declared.project.PouKind.{PouKind}
 use Rattle.plcx_model.specs.declared.project.PouKind.TheVariants.{Program, FunctionBlock}
 use Rattle.plcx_draft.specs.declared.draft.DraftPou.{DraftPou}
 
+-- a POU of this kind is a function block
 abbrev pub is_block : PouKind → Bool
 is_block Program = false
 is_block FunctionBlock = true

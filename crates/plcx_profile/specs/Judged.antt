@@ -22,6 +22,7 @@ breaks pous rule.Chains before x = breaks_chain pous before x
 breaks pous rule.Sizes before x = breaks_size pous before x
 breaks pous rule.Addresses before x = doubles Addresses before x
 
+-- a declaration breaks a rule, in a file with these POUs
 abbrev pub BreaksIn : List DraftPou → DeclarationRule → List Declared → Declared → Type 0
 BreaksIn pous r before x = breaks pous r before x ≡ true
 
@@ -29,6 +30,7 @@ BreaksIn pous r before x = breaks pous r before x ≡ true
 abbrev pub declaration_rules : List DeclarationRule
 declaration_rules = rule.Names ∷ rule.PouNames ∷ rule.VariableNames ∷ rule.Types ∷ rule.Initials ∷ rule.Chains ∷ rule.Sizes ∷ rule.Addresses ∷ []
 
+-- each rule is broken where the declaration's element begins
 abbrev pub place_of : DeclarationRule → Declared → ℕ
 place_of r x = start_of x
 

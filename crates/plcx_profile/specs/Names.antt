@@ -13,6 +13,7 @@ use Rattle.plcx_draft.specs.BodyIn.{nonempty}
 unfoldable pub is_bad_name : List ℕ → Bool
 is_bad_name name = not (is_identifier name) || nat_lt max_declared_name_bytes (length name) || is_reserved name
 
+-- a declared name is a bad one
 abbrev pub breaks_name : List Declared → Declared → Bool
 breaks_name before x = is_bad_name (name_of x)
 
@@ -30,6 +31,7 @@ abbrev pub begins : Once → Declared → Bool
 begins VariableNames (OfPou p) = true
 begins _ x = false
 
+-- what a declaration has is this
 abbrev pub is_key : List ℕ → Option (List ℕ) → Bool
 is_key q None = false
 is_key q (Some key) = bytes_eq q key
@@ -39,6 +41,7 @@ abbrev pub has_stood : Once → List ℕ → List Declared → Bool
 has_stood once q [] = false
 has_stood once q (x ∷ before) = if begins once x then false else (is_key q (key_of once x) || has_stood once q before)
 
+-- what a declaration has, if it has any, has stood
 abbrev pub stands_again : Once → Option (List ℕ) → List Declared → Bool
 stands_again once None before = false
 stands_again once (Some key) before = has_stood once key before

@@ -24,6 +24,7 @@ format_number format.Attributes = 5
 format_number format.Constructs = 6
 format_number format.Limits = 7
 
+-- the number of a rule on declarations; chains and sizes are one rule
 abbrev pub declaration_number : DeclarationRule → ℕ
 declaration_number rule.Names = 10
 declaration_number rule.PouNames = 11
@@ -49,6 +50,7 @@ pub record StandsForProject (root : Element) (project : Project) : Type 0 where
   pub verdict : ProfileVerdict root None
   pub is : project ≡ project_in root
 
+-- the file breaks this rule first, at this byte
 abbrev pub IsBroken : Element → Broken → Type 0
 IsBroken root b = (byte : ℕ) × (b.place ≡ Byte byte) × ProfileVerdict root (Some (b.rule.0, byte))
 
@@ -57,14 +59,17 @@ abbrev pub Refuses : Element → ProfileError → Type 0
 Refuses root (error.Broken b) = IsBroken root b
 Refuses root error.NoMemory = Unit {0}
 
+-- a part of a tree that is an element
 abbrev pub IsElement : Node-F Node Element → Type 0
 IsElement (Node-F.Element e) = Unit {0}
 IsElement (Node-F.Text t) = ⊥
 
+-- a root stands for a project
 abbrev pub StandsForRoot : Node-F Node Element → Project → Type 0
 StandsForRoot (Node-F.Element e) project = StandsForProject e project
 StandsForRoot (Node-F.Text t) project = ⊥
 
+-- why a root gives no project
 abbrev pub RefusesRoot : Node-F Node Element → ProfileError → Type 0
 RefusesRoot (Node-F.Element e) problem = Refuses e problem
 RefusesRoot (Node-F.Text t) problem = Unit {0}

@@ -23,16 +23,20 @@ abbrev pub type_or : Option VarTy → VarTy
 type_or None = var.Plain ty.Bool
 type_or (Some t) = t
 
+-- an initial value of an elementary type
 abbrev pub initial_as : DraftType → Option (List ℕ) → Option Value
 initial_as (Plain t) (Some text) = value_of t text
 initial_as _ text = None
 
+-- a variable of the project
 unfoldable pub variable_of : List DraftPou → DraftVariable → Variable
 variable_of pous v = record { name = v.name; address = nonempty v.address; ty = type_or (type_meant pous v.ty); initial = initial_as v.ty v.initial }
 
+-- a list of the project
 unfoldable pub list_of : List DraftPou → DraftList → VarList
 list_of pous list = record { class = list.class; constant = list.constant; retain = list.retain; variables = map (variable_of pous) list.variables }
 
+-- a POU of the project
 unfoldable pub pou_of : List DraftPou → DraftPou → Pou
 pou_of pous p = record { name = p.name; kind = p.kind; lists = map (list_of pous) p.lists; body = p.body }
 

@@ -29,6 +29,7 @@ abbrev pub place_in : Option VarTy → Option ℕ
 place_in (Some (var.Block place)) = Some place
 place_in _ = None
 
+-- the place of a variable's type, where it is a function block of the file
 abbrev pub block_of : List DraftPou → DraftVariable → Option ℕ
 block_of pous v = place_in (type_meant pous v.ty)
 
@@ -53,6 +54,7 @@ parts_as _ = 1
 abbrev pub with_pins : ℕ → List PinIn → ℕ
 with_pins n pins = fold (λ m (p : PinIn). plus m (length p.input)) n pins
 
+-- behind so many, the connections of an element
 abbrev pub with_kind : ℕ → Kind → ℕ
 with_kind n (kind.RightRail input) = plus n (length input)
 with_kind n (kind.Contact input text mods) = plus n (length input)
@@ -76,6 +78,7 @@ with_variable pous class c v = record {
   blocks = c.blocks ++ option_to_list (block_of pous v);
 }
 
+-- what a POU has with one list more
 abbrev pub with_list : List DraftPou → Content → DraftList → Content
 with_list pous c list = fold (with_variable pous list.class) c list.variables
 
@@ -83,9 +86,11 @@ with_list pous c list = fold (with_variable pous list.class) c list.variables
 unfoldable pub content_of : List DraftPou → DraftPou → Content
 content_of pous p = fold (with_list pous) (record { leaves = 0; parts = body_parts p.body.elements; blocks = [] }) p.lists
 
+-- what each POU has by itself
 abbrev pub contents : List DraftPou → List Content
 contents pous = map (content_of pous) pous
 
+-- a test of the POU at a place; none is there, none passes
 abbrev pub holds_at : (Content → Bool) → Option Content → Bool
 holds_at test None = false
 holds_at test (Some c) = test c
@@ -95,10 +100,12 @@ unfoldable pub reaches : List Content → ℕ → Content → Bool
 reaches cs zero c = true
 reaches cs (suc n) c = list_any (λ (b : ℕ). holds_at (reaches cs n) (slice_get cs b)) c.blocks
 
+-- a count of the POU at a place
 abbrev pub count_at : (Content → ℕ) → Option Content → ℕ
 count_at count None = 0
 count_at count (Some c) = count c
 
+-- what a POU has by itself of this
 abbrev pub own : Size → Content → ℕ
 own Leaves c = c.leaves
 own Parts c = c.parts
@@ -113,9 +120,11 @@ abbrev pub breaks_chain : List DraftPou → List Declared → Declared → Bool
 breaks_chain pous before (OfPou p) = false
 breaks_chain pous before (OfVariable list v) = holds_at (reaches (contents pous) max_instance_chain) (option_and_then (slice_get (contents pous)) (block_of pous v))
 
+-- there is too much of a POU with its instances
 abbrev pub is_too_large : List Content → Content → Bool
 is_too_large cs c = nat_lt max_leaves (total cs Leaves (max_instance_chain + 1) c) || nat_lt max_parts (total cs Parts (max_instance_chain + 1) c)
 
+-- a POU is too large
 abbrev pub breaks_size : List DraftPou → List Declared → Declared → Bool
 breaks_size pous before (OfPou p) = is_too_large (contents pous) (content_of pous p)
 breaks_size pous before (OfVariable list v) = false

@@ -6,13 +6,19 @@ use Rattle.std.specs.Str.{bytes_eq}
 use Rattle.plcx_draft.specs.declared.draft.DraftPou.{DraftPou}
 use Rattle.plcx_profile.specs.Blocks.{block_named}
 
+-- the place of a name in the table
+abbrev pub place_at : List ℕ → List (Vec ℕ Global × ℕ) → Option ℕ
+place_at q entries = lookup (λ k. bytes_eq q k.items) entries
+
 -- the place of each name
 abbrev pub Tells : List DraftPou → List (Vec ℕ Global × ℕ) → Type 0
-Tells pous entries = (q : List ℕ) → lookup (λ k. bytes_eq q k.items) entries ≡ block_named pous q
+Tells pous entries = (q : List ℕ) → place_at q entries ≡ block_named pous q
 
+-- what was found, or else another
 abbrev pub found_or : Option ℕ → Option ℕ → Option ℕ
 found_or None other = other
 found_or (Some x) other = Some x
 
+-- a place, where it counts
 abbrev pub place_if : Bool → ℕ → Option ℕ
 place_if b place = if b then Some place else None

@@ -22,6 +22,7 @@ abbrev pub block_at : Option ℕ → Option VarTy
 block_at None = None
 block_at (Some place) = if nat_lt place (2 ^ 32) then Some (var.Block place) else None
 
+-- a standard block, or else a function block
 abbrev pub standard_or : Option VarTy → Option StdKind → Option VarTy
 standard_or block None = block
 standard_or block (Some k) = Some (var.Std k)
@@ -31,14 +32,17 @@ abbrev pub type_meant : List DraftPou → DraftType → Option VarTy
 type_meant pous (Plain t) = Some (var.Plain t)
 type_meant pous (Derived name) = standard_or (block_at (block_named pous (in_lower_case name))) (kind_named name)
 
+-- the type is elementary
 abbrev pub is_plain : DraftType → Bool
 is_plain (Plain t) = true
 is_plain (Derived name) = false
 
+-- the list is local
 abbrev pub is_local : ListClass → Bool
 is_local Local = true
 is_local _ = false
 
+-- the list has in-outs
 abbrev pub is_in_out : ListClass → Bool
 is_in_out InOut = true
 is_in_out _ = false
@@ -57,6 +61,7 @@ abbrev pub is_no_value : DraftType → List ℕ → Bool
 is_no_value (Plain t) text = is_none (value_of t text)
 is_no_value (Derived name) text = true
 
+-- an initial value stands and is none
 abbrev pub is_bad_initial : DraftType → Option (List ℕ) → Bool
 is_bad_initial t None = false
 is_bad_initial t (Some text) = is_no_value t text
@@ -65,6 +70,7 @@ is_bad_initial t (Some text) = is_no_value t text
 abbrev pub breaks_in_out : ListClass → DraftVariable → Bool
 breaks_in_out class v = is_in_out class && (is_some v.initial || not (bytes_eq v.address []))
 
+-- an initial value is none of the type or may not stand, or an in-out has an address
 abbrev pub breaks_initial : List Declared → Declared → Bool
 breaks_initial before (OfPou p) = false
 breaks_initial before (OfVariable list v) = is_bad_initial v.ty v.initial || breaks_in_out list.class v

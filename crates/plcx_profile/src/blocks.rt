@@ -1,9 +1,8 @@
 //! The function blocks of a file by their names.
 ghost use Rattle.std.specs.Prelude.{◌≡◌, ℕ, List, IfOk};
-ghost use Rattle.std.specs.Map.{lookup};
 ghost use Rattle.std.specs.Str.{bytes_eq};
 ghost use Rattle.plcx_profile.specs.Blocks.{is_block, is_block_named, block_named};
-ghost use Rattle.plcx_profile.specs.Told.{Tells, found_or, place_if};
+ghost use Rattle.plcx_profile.specs.Told.{Tells, place_at, found_or, place_if};
 
 use crate::doubling::in_lower_case;
 use indexmap::IndexMap;
@@ -43,7 +42,7 @@ fn with_key(
     place: usize,
     key: Vec<u8>,
 ) -> Result<IndexMap<Vec<u8>, usize>, AllocError>
-    ensures { IfOk result (λ after. (q : List ℕ) → lookup (λ k. bytes_eq q k.items) after.entries ≡ found_or (lookup (λ k. bytes_eq q k.items) table.entries) (place_if (bytes_eq q key.items) place)) }
+    ensures { IfOk result (λ after. (q : List ℕ) → place_at q after.entries ≡ found_or (place_at q table.entries) (place_if (bytes_eq q key.items) place)) }
 {
     if table.contains_key(key.as_slice()) {
         return Ok(table);
@@ -59,7 +58,7 @@ fn with_pou(
     place: usize,
     pou: &DraftPou,
 ) -> Result<IndexMap<Vec<u8>, usize>, AllocError>
-    ensures { IfOk result (λ after. (q : List ℕ) → lookup (λ k. bytes_eq q k.items) after.entries ≡ found_or (lookup (λ k. bytes_eq q k.items) table.entries) (place_if (is_block_named q pou.now) place)) }
+    ensures { IfOk result (λ after. (q : List ℕ) → place_at q after.entries ≡ found_or (place_at q table.entries) (place_if (is_block_named q pou.now) place)) }
 {
     if !is_block(pou.kind) {
         return Ok(table);

@@ -11,10 +11,12 @@ use Rattle.plcx_table.specs.declared.row.Fate.TheVariants.{Read, Refused, Skippe
 use Rattle.plcx_table.specs.Number.{number_of}
 use Rattle.plcx_table.specs.Walk.{Item, first, values_of}
 
+-- a text, or the empty one where there is none
 abbrev pub or_empty : Option (List ℕ) → List ℕ
 or_empty None = []
 or_empty (Some v) = v
 
+-- a number, or 0 where there is none
 abbrev pub or_zero : Option ℕ → ℕ
 or_zero None = 0
 or_zero (Some n) = n
@@ -23,6 +25,7 @@ or_zero (Some n) = n
 unfoldable pub attribute_of : List ℕ → Element → List ℕ
 attribute_of name e = or_empty (first (values_of name e))
 
+-- the number that an attribute's value is
 unfoldable pub number_at : List ℕ → Element → ℕ
 number_at name e = or_zero (number_of (attribute_of name e))
 
@@ -30,10 +33,12 @@ number_at name e = or_zero (number_of (attribute_of name e))
 unfoldable pub is_point : List ℕ → Bool
 is_point name = bytes_eq name (codes "connectionPointIn") || bytes_eq name (codes "connectionPointOut")
 
+-- a part of an element, by what is said of the elements in it
 abbrev pub node_points : Node-F Bool Bool → Bool
 node_points (Node-F.Element points) = points
 node_points (Node-F.Text t) = false
 
+-- an element by its name, or by what is said of its parts
 abbrev pub element_points : Element-F Bool Bool → Bool
 element_points e = is_point e.name || list_any (λ (points : Bool). points) e.children
 
@@ -45,6 +50,7 @@ has_point = fold-Element Bool Bool node_points element_points
 unfoldable pub node_has_point : Node → Bool
 node_has_point = fold-Node Bool Bool node_points element_points
 
+-- a number in a diagram
 abbrev pub is_pair : ℕ → ℕ → ℕ × ℕ → Bool
 is_pair d n k = nat_eq d k.0 && nat_eq n k.1
 
@@ -53,10 +59,12 @@ abbrev pub diagrams_with : Fate → ℕ → ℕ
 diagrams_with (Read Diagram) n = n + 1
 diagrams_with _ n = n
 
+-- how many diagrams these items begin
 abbrev pub diagrams : List Item → ℕ
 diagrams [] = 0
 diagrams (x ∷ before) = diagrams_with x.fate (diagrams before)
 
+-- the reference goes in front where the element is a connection
 abbrev pub with_reference : Fate → ℕ × ℕ → List (ℕ × ℕ) → List (ℕ × ℕ)
 with_reference (Read Connection) pair rest = pair ∷ rest
 with_reference (Read RailConnection) pair rest = pair ∷ rest
@@ -71,10 +79,12 @@ referred n (x ∷ xs) = with_reference x.fate (n, number_at (codes "refLocalId")
 abbrev pub takes_part : List (ℕ × ℕ) → ℕ → Element → Bool
 takes_part references diagram e = has_point e || list_any (is_pair diagram (number_at (codes "localId") e)) references
 
+-- an element is refused by the table, or is a vendor's and takes part
 abbrev pub is_left_out : List (ℕ × ℕ) → ℕ → Fate → Element → Bool
 is_left_out references diagram (Refused row) e = true
 is_left_out references diagram (Skipped Vendor) e = takes_part references diagram e
 is_left_out references diagram _ e = false
 
+-- an element of a file with these references is left out
 abbrev pub breaks_constructs : List (ℕ × ℕ) → List Item → Item → Bool
 breaks_constructs references before x = is_left_out references (diagrams before) x.fate x.element

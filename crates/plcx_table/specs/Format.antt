@@ -29,6 +29,7 @@ breaks namespace all Attributes before x = breaks_attributes namespace x.fate x.
 breaks namespace all Constructs before x = breaks_constructs (referred 0 all) before x
 breaks namespace all Limits before x = breaks_limits before x
 
+-- an element breaks a rule, in a file of this root
 abbrev pub Breaks : Element → FormatRule → List Item → Item → Type 0
 Breaks root rule before x = breaks (attribute_of (codes "xmlns") root) (looked_at root) rule before x ≡ true
 
@@ -36,6 +37,7 @@ Breaks root rule before x = breaks (attribute_of (codes "xmlns") root) (looked_a
 abbrev pub format_rules : List FormatRule
 format_rules = Structure ∷ Attributes ∷ Constructs ∷ Limits ∷ []
 
+-- each rule is broken where the element begins
 abbrev pub place_of : FormatRule → Item → ℕ
 place_of rule x = start_of x.element
 

@@ -8,6 +8,7 @@ use Rattle.plcx_table.specs.declared.row.Fate.TheVariants.{Read, Skipped}
 use Rattle.plcx_table.specs.declared.limits.Counts.{Counts}
 use Rattle.plcx_table.specs.Walk.{Item}
 
+-- what is counted before the first element
 abbrev pub no_counts : Counts
 no_counts = record { pous = 0; variables = 0; elements = 0; connections = 0; pin_connections = 0; pins = 0 }
 
@@ -19,9 +20,11 @@ with_pou c = record c { pous = c.pous + 1; variables = 0 }
 abbrev pub with_body : Counts → Counts
 with_body c = record c { elements = 0; connections = 0 }
 
+-- an element of a body
 abbrev pub with_element : Counts → Counts
 with_element c = record c { elements = c.elements + 1 }
 
+-- a pin of a list of inputs or in-outs
 abbrev pub with_pin : Counts → Counts
 with_pin c = record c { pins = c.pins + 1 }
 

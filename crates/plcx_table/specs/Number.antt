@@ -52,8 +52,10 @@ unfoldable pub coordinate_of : List ℕ → Option ℤ
 coordinate_of text = if begins_with 45 text then option_map (λ n. neg_ℤ (pos n)) (magnitude_of (drop 1 text))
     else (if begins_with 43 text then option_map (λ n. pos n) (magnitude_of (drop 1 text)) else option_map (λ n. pos n) (magnitude_of text))
 
+-- the text is a number
 abbrev pub is_number : List ℕ → Bool
 is_number text = is_some (number_of text)
 
+-- the text is a coordinate
 abbrev pub is_coordinate : List ℕ → Bool
 is_coordinate text = is_some (coordinate_of text)

@@ -23,6 +23,7 @@ use Rattle.plcx_table.specs.Walk.{values_of, is_taken, none_taken, taken_behind,
 unfoldable pub taken_by : Row → List Node → Taken
 taken_by row nodes = fold (λ (t : Taken) (n : Node). taken_behind row t (out-Node n)) none_taken nodes
 
+-- a child that has to stand doesn't
 abbrev pub is_open : Taken → Often → Bool
 is_open t Any = false
 is_open t (AtMostOnce s) = false
@@ -36,6 +37,7 @@ lacks_child row e = list_any (λ (c : Child). is_open (taken_by row (children_of
 unfoldable pub has_stray_text : Row → Element → Bool
 has_stray_text row e = not (holds_text row) && has_text e
 
+-- an element is misplaced or doubled, lacks a child, or has text where none may stand
 abbrev pub breaks_structure : Fate → Element → Bool
 breaks_structure Misplaced e = true
 breaks_structure Doubled e = true
@@ -46,6 +48,7 @@ breaks_structure _ e = false
 abbrev pub is_among : List (List ℕ) → List ℕ → Bool
 is_among values value = list_any (bytes_eq value) values
 
+-- a value has its form
 unfoldable pub has_form : Form → List ℕ → Bool
 has_form Whole v = is_number v
 has_form Coordinate v = is_coordinate v
@@ -70,9 +73,11 @@ is_bad required good None = true
 is_bad required good (Some None) = required
 is_bad required good (Some (Some v)) = not (good v)
 
+-- an attribute of the table is missing, doubled or malformed
 abbrev pub is_bad_field : Element → Field → Bool
 is_bad_field e f = is_bad f.required (has_form f.form) (at_most_one (values_of f.name e))
 
+-- some attribute of the table is
 unfoldable pub has_bad_field : Row → Element → Bool
 has_bad_field row e = list_any (is_bad_field e) (attributes row)
 
@@ -80,6 +85,7 @@ has_bad_field row e = list_any (is_bad_field e) (attributes row)
 unfoldable pub has_bad_namespace : List ℕ → Element → Bool
 has_bad_namespace namespace e = is_bad false (λ v. bytes_eq v namespace) (at_most_one (values_of (codes "xmlns") e))
 
+-- the attributes of the table count wherever an element has a row; the namespace doesn't where it is skipped
 abbrev pub breaks_attributes : List ℕ → Fate → Element → Bool
 breaks_attributes namespace (Read row) e = has_bad_field row e || has_bad_namespace namespace e
 breaks_attributes namespace (Refused row) e = has_bad_field row e || has_bad_namespace namespace e

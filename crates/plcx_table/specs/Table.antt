@@ -18,12 +18,14 @@ pub data When : Type 0 where
   Has : List ℕ → List ℕ → When
   HasText : When
 
+-- a child: its name, where it is meant, how often it stands, and what becomes of it
 pub record Child : Type 0 where
   pub name : List ℕ
   pub when : When
   pub often : Often
   pub fate : Fate
 
+-- an attribute: its name, whether it has to stand, and the form of its value
 pub record Field : Type 0 where
   pub name : List ℕ
   pub required : Bool
@@ -45,9 +47,11 @@ once seat name fate = record { name = name; when = Always; often = Once seat; fa
 abbrev pub where_meant : When → Child → Child
 where_meant when c = record c { when = when }
 
+-- an attribute that has to stand
 abbrev pub needed : List ℕ → Form → Field
 needed name form = record { name = name; required = true; form = form }
 
+-- an attribute that may be absent
 abbrev pub optional : List ℕ → Form → Field
 optional name form = record { name = name; required = false; form = form }
 
@@ -290,6 +294,7 @@ children _ = []
 abbrev pub placing : List Field
 placing = needed (codes "localId") Whole ∷ optional (codes "executionOrderId") Whole ∷ []
 
+-- the modifiers of elements and pins
 abbrev pub modifiers : List Field
 modifiers = optional (codes "negated") Boolean ∷ optional (codes "edge") Edge ∷ optional (codes "storage") Storage ∷ []
 

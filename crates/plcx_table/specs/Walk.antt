@@ -19,6 +19,7 @@ use Rattle.plcx_table.specs.declared.row.Fate.TheVariants.{Read, Refused, Skippe
 use Rattle.plcx_table.specs.declared.row.Taken.{Taken}
 use Rattle.plcx_table.specs.Table.{When, Always, Has, HasText, Child, children, holds_text}
 
+-- an element that is looked at, and what becomes of it
 pub record Item : Type 0 where
   pub fate : Fate
   pub element : Element
@@ -27,6 +28,7 @@ pub record Item : Type 0 where
 abbrev pub start_of : Element → ℕ
 start_of e = (span_of e).start
 
+-- the value of an attribute, if it has the name
 abbrev pub value_under : List ℕ → Attribute → Option (List ℕ)
 value_under name a = if bytes_eq a.name name then Some a.value else None
 
@@ -34,14 +36,17 @@ value_under name a = if bytes_eq a.name name then Some a.value else None
 unfoldable pub values_of : List ℕ → Element → List (List ℕ)
 values_of name e = filter_map (value_under name) (attributes_of e)
 
+-- the first of a list
 abbrev pub first : {A : Type 0} → List A → Option A
 first [] = None
 first (x ∷ xs) = Some x
 
+-- the value is this one
 abbrev pub is_value : List ℕ → Option (List ℕ) → Bool
 is_value value None = false
 is_value value (Some v) = bytes_eq v value
 
+-- a part that is text, and not white space alone
 abbrev pub is_nonblank : Node-F Node Element → Bool
 is_nonblank (Node-F.Element e) = false
 is_nonblank (Node-F.Text t) = not (list_all is_space t.value)
@@ -50,11 +55,13 @@ is_nonblank (Node-F.Text t) = not (list_all is_space t.value)
 unfoldable pub has_text : Element → Bool
 has_text e = list_any (λ (n : Node). is_nonblank (out-Node n)) (children_of e)
 
+-- whether a child of its name is meant there
 abbrev pub is_meant : When → Element → Bool
 is_meant Always e = true
 is_meant (Has name value) e = is_value value (first (values_of name e))
 is_meant HasText e = has_text e
 
+-- an element fits an entry by its name, where it is meant
 abbrev pub fits : Element → Child → Bool
 fits e c = bytes_eq c.name (name_of e) && is_meant c.when e
 
@@ -70,26 +77,31 @@ fate_for row e = option_map (λ (c : Child). c.fate) (child_for row e)
 unfoldable pub is_aside : List ℕ → Bool
 is_aside name = bytes_eq name (codes "documentation") || bytes_eq name (codes "addData")
 
+-- whether a seat is taken
 abbrev pub is_taken : Seat → Taken → Bool
 is_taken First t = t.first
 is_taken Second t = t.second
 is_taken Third t = t.third
 is_taken Fourth t = t.fourth
 
+-- one seat more is taken
 abbrev pub with_seat : Seat → Taken → Taken
 with_seat First t = record t { first = true }
 with_seat Second t = record t { second = true }
 with_seat Third t = record t { third = true }
 with_seat Fourth t = record t { fourth = true }
 
+-- no seat is taken
 abbrev pub none_taken : Taken
 none_taken = record { first = false; second = false; third = false; fourth = false }
 
+-- what a child that stands so often takes
 abbrev pub with_often : Often → Taken → Taken
 with_often Any t = t
 with_often (AtMostOnce s) t = with_seat s t
 with_often (Once s) t = with_seat s t
 
+-- what a child of the table takes; others take nothing
 abbrev pub with_child : Option Child → Taken → Taken
 with_child None t = t
 with_child (Some c) t = with_often c.often t
@@ -109,6 +121,7 @@ abbrev pub other_fate : Row → List ℕ → Fate
 other_fate Contents name = if has_prefix name then Misplaced else Refused Bare
 other_fate _ name = Misplaced
 
+-- by its entry, or by its name where it has none
 abbrev pub fate_as : Row → List ℕ → Option Child → Taken → Fate
 fate_as row name None t = other_fate row name
 fate_as row name (Some c) t = fate_often c.often t c.fate
@@ -117,13 +130,16 @@ fate_as row name (Some c) t = fate_often c.often t c.fate
 unfoldable pub fate_of : Row → Taken → Element → Fate
 fate_of row t e = if holds_text row then Misplaced else (if is_aside (name_of e) then Skipped Bare else fate_as row (name_of e) (child_for row e) t)
 
+-- the seats that are taken once this child has come
 unfoldable pub taken_with : Row → Taken → Element → Taken
 taken_with row t e = if holds_text row || is_aside (name_of e) then t else with_child (child_for row e) t
 
+-- the same behind a part of an element; text takes none
 abbrev pub taken_behind : Row → Taken → Node-F Node Element → Taken
 taken_behind row t (Node-F.Element e) = taken_with row t e
 taken_behind row t (Node-F.Text text) = t
 
+-- what is looked at in one part of an element
 abbrev pub at_node : (Fate → Element → List Item) → Row → Taken → Node-F Node Element → List Item
 at_node inner row t (Node-F.Element e) = inner (fate_of row t e) e
 at_node inner row t (Node-F.Text text) = []
