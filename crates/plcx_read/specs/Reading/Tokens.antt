@@ -4,7 +4,7 @@ use denote.Enum.Bare.{sameb}
 use Rattle.plcx_types.specs.declared.ty.Ty.{Ty}
 use Rattle.plcx_lex.specs.Token.{Token}
 use Rattle.plcx_lex.specs.ReadNumber.{literal_of}
-use Rattle.plcx_st.specs.contracts.terminal.Terminal.{the_type}
+use Rattle.plcx_lex.specs.contracts.terminal.Terminal.{the_type}
 use Rattle.plcx_lex.specs.declared.terminal.Terminal.{Terminal}
 use Rattle.plcx_lex.specs.declared.terminal.Terminal.TheVariants as t
 use Rattle.plcx_lex.specs.Terminal.{terminal}
