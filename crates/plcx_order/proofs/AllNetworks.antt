@@ -1,11 +1,11 @@
 -- Networks one after the other: they have no element in common.
-use Rattle.std.proofs.Common.{◌≡◌, ℕ, zero, suc, ◌+◌, ◌<◌, ◌≤◌, ◌⊎◌, inl, inr, Bool, true, false, List, [], ◌∷◌, ◌++◌, length, get_or, take, refl, sym, ◌∙◌, ap, subst, arith}
+use Rattle.std.proofs.Common.{◌≡◌, ℕ, zero, suc, ◌+◌, ◌<◌, Bool, List, [], ◌∷◌, ◌++◌, length, get_or, take, refl, sym, ◌∙◌, ap, subst, arith}
 use Rattle.std.proofs.lemmas.Grind.{take_at_read}
 use Rattle.plcx_model.specs.Lists.{Each}
-use Rattle.plcx_model.specs.Graph.{Graph, IsGraph, PlaceBefore, from_at, to_at}
+use Rattle.plcx_model.specs.Graph.{Graph, from_at}
 use Rattle.plcx_model.specs.Networks.{Listed, IsNetwork, AreNetworks, AreInOrder, ComesBefore}
 use Rattle.plcx_model.specs.Orders.{IsOrder, AreOrders}
-use Rattle.plcx_order.specs.Counts.{is_awaited, AreAwaited, IsUntouched, LeavesOthers}
+use Rattle.plcx_order.specs.Counts.{AreAwaited, IsUntouched, LeavesOthers}
 use Rattle.plcx_order.proofs.KeyOrder.{not_before_itself}
 use Rattle.plcx_order.proofs.InNetwork.{together, closed, linked_back, member_part}
 use Rattle.plcx_order.proofs.Listings.{untouched_start}

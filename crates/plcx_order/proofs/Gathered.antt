@@ -1,16 +1,16 @@
 -- The lists of the networks.
-use Rattle.std.proofs.Common.{◌≡◌, ◌↔◌, ℕ, zero, suc, ◌+◌, ◌-◌, ◌<◌, ◌≤◌, ◌⊎◌, inl, inr, Bool, true, false, List, [], ◌∷◌, ◌++◌, length, get_or, slice_index, nat_eq, refl, sym, ◌∙◌, ap, subst, arith}
-use Rattle.std.proofs.lemmas.Bool.{cases_lt, cases_eq}
+use Rattle.std.proofs.Common.{◌≡◌, ℕ, zero, suc, ◌+◌, ◌-◌, ◌<◌, ◌⊎◌, inl, inr, Bool, true, false, List, [], ◌∷◌, ◌++◌, length, get_or, slice_index, nat_eq, refl, sym, ◌∙◌, ap, subst, arith}
+use Rattle.std.proofs.lemmas.Bool.{cases_eq}
 use Rattle.std.proofs.lemmas.Bool.Decides.{nat_tests}
 use Rattle.plcx_model.specs.Lists.{Each}
-use Rattle.plcx_model.specs.Graph.{Graph, IsGraph, TakesPart, PlaceBefore, elements}
+use Rattle.plcx_model.specs.Graph.{Graph, IsGraph, TakesPart, elements}
 use Rattle.plcx_model.specs.Paths.{IsLink, Reaches}
 use Rattle.plcx_model.specs.Networks.{Listed, IsRising, IsNetwork, ComesBefore, AreInOrder, IsInOne, AreNetworks}
 use Rattle.plcx_order.specs.Classes.{IsSpread, append_if, members, class_below}
 use Rattle.plcx_order.proofs.Paths.{kept}
 use Rattle.plcx_order.proofs.InNetwork.{part_within, linked_part}
 use Rattle.plcx_order.proofs.OneOrder.{stays_listed, last_listed, was_listed}
-use Rattle.plcx_order.proofs.Counting.{eq_true, either_bool}
+use Rattle.plcx_order.proofs.Counting.{eq_true}
 
 equal : (m n : ℕ) → nat_eq m n ≡ true → m ≡ n
 equal m n h = grind (arith, nat_tests)

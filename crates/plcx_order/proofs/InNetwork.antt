@@ -1,10 +1,10 @@
 -- What is linked, and what stands in a network.
-use Rattle.std.proofs.Common.{◌≡◌, ℕ, ◌<◌, ◌≤◌, ◌⊎◌, inl, inr, Bool, true, false, List, [], ◌∷◌, length, get_or, refl, sym, ◌∙◌, ap, subst, arith, zero, suc}
-use Rattle.plcx_model.specs.Graph.{Graph, IsGraph, TakesPart, elements, from_at, to_at}
+use Rattle.std.proofs.Common.{◌≡◌, ℕ, ◌<◌, ◌⊎◌, inl, inr, Bool, true, false, List, [], ◌∷◌, length, get_or, refl, arith, zero, suc}
+use Rattle.plcx_model.specs.Graph.{Graph, IsGraph, TakesPart, elements}
 use Rattle.plcx_model.specs.Paths.{IsWire, IsLink, Reaches}
 use Rattle.plcx_model.specs.Networks.{Listed, IsNetwork}
 use Rattle.plcx_order.proofs.Deciding.{Dec, both, either, along}
-use Rattle.plcx_order.proofs.Paths.{here, then, step, kept, back_too, wire_or_none, reaches_or_not}
+use Rattle.plcx_order.proofs.Paths.{then, kept, back_too, wire_or_none, reaches_or_not}
 
 true_within : (bs : List Bool) (v : ℕ) → get_or bs v false ≡ true → v < length bs
 true_within [] v e = absurd (let f : false ≡ true = e in cc)

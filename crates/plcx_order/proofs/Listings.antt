@@ -1,5 +1,5 @@
 -- What listing one more element keeps.
-use Rattle.std.proofs.Common.{◌≡◌, ℕ, ◌+◌, ◌<◌, ◌≤◌, ◌&&◌, ◌⊎◌, not, inl, inr, Bool, true, false, List, [], ◌∷◌, ◌++◌, length, slice_index, nat_eq, refl, sym, ◌∙◌, ap, subst, arith, append-nil, append_assoc, zero, suc, take, drop}
+use Rattle.std.proofs.Common.{◌≡◌, ℕ, ◌+◌, ◌<◌, ◌≤◌, ◌&&◌, not, inl, inr, Bool, true, false, List, [], ◌∷◌, ◌++◌, length, slice_index, nat_eq, refl, sym, ◌∙◌, ap, subst, arith, append-nil, append_assoc}
 use Rattle.std.specs.List.{All}
 use Rattle.std.specs.Ordering.{is_lt, is_gt, nat_cmp, ordering_then, ordering_reverse}
 use Rattle.std.specs.declared.cmp.Ordering.{Ordering}
@@ -8,17 +8,15 @@ use Rattle.std.proofs.lemmas.Bool.{cases_eq}
 use Rattle.std.proofs.lemmas.List.Sorted.{sum_by_popped, All-permutation}
 use Rattle.std.proofs.lemmas.List.Sums.{sum_by-cons}
 use Rattle.std.proofs.lemmas.List.Elements.{All-head, All-tail}
-use Rattle.plcx_model.specs.Lists.{Each}
-use Rattle.plcx_model.specs.declared.source.Wire.{Wire}
 use Rattle.plcx_model.specs.Keys.{key_cmp}
 use Rattle.plcx_model.specs.Graph.{Graph, IsGraph, KeyAtMost, TakesPart, takes_part, elements, key_at, from_at, to_at}
-use Rattle.plcx_model.specs.Paths.{IsWire, IsLink}
-use Rattle.plcx_model.specs.Networks.{Listed, IsNetwork, AreNetworks, AreInOrder, ComesBefore}
+use Rattle.plcx_model.specs.Paths.{IsLink}
+use Rattle.plcx_model.specs.Networks.{Listed, IsNetwork}
 use Rattle.plcx_model.specs.Feedback.{IsFeedback, AreMarks}
 use Rattle.plcx_model.specs.Orders.{IsReady, IsNext, IsOrderFrom, IsOrder}
 use Rattle.plcx_order.specs.declared.ready.Entry.{Entry}
 use Rattle.plcx_order.specs.Ranks.{rank_of, ranks_cmp}
-use Rattle.plcx_order.specs.Counts.{one, is_awaited, IsCounted, IsWholeCount, places_of, entries_of, entry_cmp, TakesLeast, IsEntry, AreAwaited, IsWaiting, IsUntouched, LeavesOthers, IsListing, HasHeard, unlisted}
+use Rattle.plcx_order.specs.Counts.{one, is_awaited, IsWholeCount, places_of, entries_of, entry_cmp, TakesLeast, IsEntry, AreAwaited, IsWaiting, IsUntouched, LeavesOthers, IsListing, HasHeard, unlisted}
 use Rattle.plcx_order.proofs.RankOrder.{compare_alike}
 use Rattle.plcx_order.proofs.KeyOrder.{keys_total, at_most_itself}
 use Rattle.plcx_order.proofs.Paths.{step}

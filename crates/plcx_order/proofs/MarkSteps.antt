@@ -2,7 +2,6 @@
 use Rattle.std.proofs.Common.{◌≡◌, ℕ, ◌+◌, ◌<◌, ◌↔◌, inl, inr, Bool, true, false, List, [], ◌∷◌, ◌++◌, get_or, sym, ◌∙◌, ap, subst, arith}
 use Rattle.std.proofs.lemmas.Bool.{cases_lt}
 use Rattle.std.proofs.lemmas.List.{length_push, get_or_push, get_or_append_left}
-use Rattle.plcx_model.specs.declared.source.Wire.{Wire}
 use Rattle.plcx_order.specs.declared.walk.Place.{Place}
 use Rattle.plcx_order.specs.declared.walk.Place.TheVariants.{Unseen, Done}
 use Rattle.plcx_model.specs.Graph.{from_at, to_at, Graph, elements}

@@ -1,13 +1,13 @@
 -- Each body has exactly one list of networks.
-use Rattle.std.proofs.Common.{◌≡◌, ◌↔◌, ℕ, zero, suc, ◌+◌, ◌<◌, ◌≤◌, ◌⊎◌, inl, inr, Bool, true, false, List, [], ◌∷◌, ◌++◌, length, refl, sym, ◌∙◌, ap, subst, arith}
+use Rattle.std.proofs.Common.{◌≡◌, ℕ, zero, suc, ◌<◌, ◌⊎◌, inl, inr, Bool, true, false, List, [], ◌∷◌, length, refl, sym, ◌∙◌, ap, subst, arith}
 use Rattle.std.proofs.lemmas.Bool.{cases_lt}
 use Rattle.plcx_model.specs.Lists.{Each}
 use Rattle.plcx_model.specs.Graph.{Graph, IsGraph, TakesPart, PlaceBefore, elements}
 use Rattle.plcx_model.specs.Paths.{IsLink, Reaches}
-use Rattle.plcx_model.specs.Networks.{Listed, IsRising, IsNetwork, ComesBefore, AreInOrder, IsInOne, AreNetworks, HaveOneListOfNetworks}
+use Rattle.plcx_model.specs.Networks.{Listed, IsRising, IsNetwork, ComesBefore, AreInOrder, IsInOne, HaveOneListOfNetworks}
 use Rattle.plcx_order.specs.Classes.{members}
 use Rattle.plcx_order.proofs.Deciding.{Dec, both, not_so, listed_or_not, least_below}
-use Rattle.plcx_order.proofs.Paths.{here, then, step}
+use Rattle.plcx_order.proofs.Paths.{here, then}
 use Rattle.plcx_order.proofs.KeyOrder.{before_or_not, before_then, not_before_itself, one_place}
 use Rattle.plcx_order.proofs.InNetwork.{part_within, part_or_not, inside, together, closed, linked_back, linked_part, linked_or_not, member_part}
 use Rattle.plcx_order.proofs.RisingLists.{each_listed}

@@ -1,12 +1,11 @@
 -- Each network has exactly one order.
 use Rattle.std.proofs.Common.{◌≡◌, ℕ, zero, suc, ◌<◌, ◌⊎◌, inl, inr, List, [], ◌∷◌, ◌++◌, length, refl, sym, ◌∙◌, ap, subst, arith}
-use Rattle.plcx_model.specs.declared.source.Wire.{Wire}
-use Rattle.plcx_model.specs.Graph.{Graph, IsGraph, KeyAtMost, elements, from_at, to_at}
+use Rattle.plcx_model.specs.Graph.{Graph, IsGraph, KeyAtMost, elements}
 use Rattle.plcx_model.specs.Paths.{IsWire, Reaches}
-use Rattle.plcx_model.specs.Networks.{Listed, IsNetwork}
+use Rattle.plcx_model.specs.Networks.{Listed}
 use Rattle.plcx_model.specs.Feedback.{IsFeedback}
-use Rattle.plcx_model.specs.Orders.{IsReady, IsNext, IsOrderFrom, IsOrder, HaveOneOrder}
-use Rattle.plcx_order.proofs.Deciding.{Dec, both, implies, not_so, along, same, some_below, listed_or_not, least_below}
+use Rattle.plcx_model.specs.Orders.{IsReady, IsNext, IsOrderFrom, HaveOneOrder}
+use Rattle.plcx_order.proofs.Deciding.{Dec, both, implies, not_so, along, some_below, listed_or_not, least_below}
 use Rattle.plcx_order.proofs.Paths.{here, then, step, wires_reach_or_not, wire_or_none, out_within}
 use Rattle.plcx_order.proofs.KeyOrder.{at_most_itself, at_most_then, at_most_or_not, at_most_back, one_key}
 use Rattle.plcx_order.proofs.InNetwork.{inside}

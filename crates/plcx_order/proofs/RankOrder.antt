@@ -1,10 +1,10 @@
 -- Ranks compare as keys do.
-use Rattle.std.proofs.Common.{◌≡◌, ◌↔◌, ℕ, Bool, true, false, Option, Some, None, refl, sym, ◌∙◌, ap}
+use Rattle.std.proofs.Common.{◌≡◌, ◌↔◌, ℕ, true, false, Option, Some, None, refl}
 use Rattle.std.specs.Ordering.{is_gt, is_le}
 use Rattle.std.specs.declared.cmp.Ordering.{Ordering}
 use Rattle.std.specs.declared.cmp.Ordering.TheVariants.{Less, Equal, Greater}
 use Rattle.plcx_model.specs.declared.key.Key.{Key}
-use Rattle.plcx_model.specs.Keys.{order_cmp, place_cmp, key_cmp}
+use Rattle.plcx_model.specs.Keys.{order_cmp, key_cmp}
 use Rattle.plcx_order.specs.declared.rank.Place.{Place}
 use Rattle.plcx_order.specs.Ranks.{rank_at, rank_of, place_of, places_cmp, ranks_cmp}
 use Rattle.std.specs.Ordering.{ordering_then}

@@ -1,9 +1,8 @@
 -- Lists of elements, by their places.
-use Rattle.std.proofs.Common.{◌≡◌, ℕ, zero, suc, ◌+◌, ◌<◌, ◌⊎◌, inl, inr, List, [], ◌∷◌, ◌++◌, length, slice_index, take, drop, refl, sym, ◌∙◌, ap, subst, arith}
+use Rattle.std.proofs.Common.{◌≡◌, ℕ, zero, suc, ◌+◌, ◌<◌, inl, inr, List, [], ◌∷◌, ◌++◌, length, slice_index, take, refl, sym, subst, arith}
 use Rattle.std.proofs.lemmas.Grind.{take_at_read}
 use Rattle.plcx_model.specs.Lists.{Each}
 use Rattle.plcx_model.specs.Networks.{Listed, IsRising}
-use Rattle.plcx_order.proofs.OneOrder.{stays_listed, last_listed, was_listed}
 
 pub nth_listed : (xs : List ℕ) (k : ℕ) → k < length xs → Listed xs (slice_index xs k)
 nth_listed [] k h = absurd (omega (arith, h))

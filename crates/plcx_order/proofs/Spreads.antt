@@ -1,12 +1,12 @@
 -- What seeing a neighbour, beginning a network and going over all neighbours keep.
-use Rattle.std.proofs.Common.{◌≡◌, ℕ, zero, suc, ◌+◌, ◌*◌, ◌-◌, ◌<◌, ◌≤◌, ◌⊎◌, inl, inr, Bool, true, false, List, [], ◌∷◌, ◌++◌, length, set, slice_index, nat_eq, refl, sym, ◌∙◌, ap, subst, arith, length-set, get_or-set_same, get_or-set_other}
+use Rattle.std.proofs.Common.{◌≡◌, ℕ, zero, suc, ◌+◌, ◌-◌, ◌<◌, ◌≤◌, ◌⊎◌, inl, inr, List, [], ◌∷◌, ◌++◌, length, set, slice_index, nat_eq, refl, sym, ◌∙◌, ap, subst, arith, length-set, get_or-set_same, get_or-set_other}
 use Rattle.std.proofs.lemmas.Bool.{cases_lt, cases_eq}
 use Rattle.std.proofs.lemmas.List.{length_push, get_or_push, get_or_append_left}
 use Rattle.plcx_model.specs.declared.source.Wire.{Wire}
 use Rattle.plcx_model.specs.Graph.{Graph, IsGraph, TakesPart, PlaceBefore, elements, from_at, to_at}
 use Rattle.plcx_model.specs.Paths.{IsWire, IsLink, Reaches}
 use Rattle.plcx_model.specs.Networks.{Listed}
-use Rattle.plcx_order.specs.Classes.{AreSound, AreLinks, IsSpread, Spreading, IsDoneFrom, KeepsNumbers, unseen, left_to_do}
+use Rattle.plcx_order.specs.Classes.{AreLinks, IsSpread, Spreading, IsDoneFrom, KeepsNumbers, left_to_do}
 use Rattle.plcx_order.proofs.Paths.{here, then, step}
 use Rattle.plcx_order.proofs.InNetwork.{link_back, part_within}
 use Rattle.plcx_order.proofs.OneOrder.{stays_listed, last_listed, was_listed}

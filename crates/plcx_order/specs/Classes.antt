@@ -1,7 +1,6 @@
 -- What the walk of `networks` keeps. Only proofs are served by it.
 use Rattle.std.specs.Prelude.{◌≡◌, ℕ, zero, suc, ◌+◌, ◌*◌, ◌-◌, ◌<◌, ◌≤◌, ◌⊎◌, ◌++◌, Bool, true, false, List, [], ◌∷◌, length, get_or, slice_index, nat_eq, pos}
 use Rattle.std.specs.List.{All, Contains}
-use Rattle.std.specs.List.Sorted.{IsSorted}
 use Rattle.std.specs.Ordering.{nat_cmp, ordering_then}
 use Rattle.std.specs.declared.cmp.Ordering.{Ordering}
 use Rattle.plcx_model.specs.declared.source.Wire.{Wire}
@@ -41,7 +40,8 @@ AreSound g links = (i : ℕ) → i < length links → IsLink g (from_at links i)
 -- both directions are there for each of the first n connections whose ends take part
 pub record AreLinks (g : Graph) (n : ℕ) (links : List Wire) : Type 0 where
   pub sound : AreSound g links
-  pub whole : (i : ℕ) → i < n → TakesPart g (from_at g.wires i) → TakesPart g (to_at g.wires i) → IsWire links (from_at g.wires i) (to_at g.wires i) × IsWire links (to_at g.wires i) (from_at g.wires i)
+  pub whole : (i : ℕ) → i < n → TakesPart g (from_at g.wires i) → TakesPart g (to_at g.wires i) →
+      IsWire links (from_at g.wires i) (to_at g.wires i) × IsWire links (to_at g.wires i) (from_at g.wires i)
 
 -- NUMBERS OF NETWORKS
 
@@ -74,6 +74,10 @@ unseen n number = count_below n (λ v. nat_eq (slice_index number v) 0)
 
 abbrev pub left_to_do : ℕ → List ℕ → List ℕ → ℕ
 left_to_do n number todo = 2 * unseen n number + length todo
+
+-- no more is left to do than before
+abbrev pub NoMoreToDo : Graph → List ℕ → List ℕ → List ℕ → List ℕ → Type 0
+NoMoreToDo g number todo number' todo' = left_to_do (elements g) number' todo' ≤ left_to_do (elements g) number todo
 
 -- THE LISTS
 

@@ -95,10 +95,19 @@ pub record IsListing (g : Graph) (network : List ℕ) (marks awaited : List Bool
   pub into : (i : ℕ) → i < length g.wires → Listed network (to_at g.wires i) → is_awaited awaited i ≡ true → Listed network (from_at g.wires i)
   pub out_of : (i : ℕ) → i < length g.wires → Listed network (from_at g.wires i) → is_awaited awaited i ≡ true → Listed network (to_at g.wires i)
   pub unheard : (i : ℕ) → i < length g.wires → is_awaited awaited i ≡ true → (IsFeedback g (from_at g.wires i) (to_at g.wires i) → ⊥) × (Listed xs (from_at g.wires i) → ⊥)
-  pub heard : (i : ℕ) → i < length g.wires → Listed network (from_at g.wires i) → Listed network (to_at g.wires i) → is_awaited awaited i ≡ false → IsFeedback g (from_at g.wires i) (to_at g.wires i) ⊎ Listed xs (from_at g.wires i)
+  pub heard : (i : ℕ) → i < length g.wires → Listed network (from_at g.wires i) → Listed network (to_at g.wires i) → is_awaited awaited i ≡ false →
+      IsFeedback g (from_at g.wires i) (to_at g.wires i) ⊎ Listed xs (from_at g.wires i)
   pub once : (v : ℕ) → Listed network v → entries_of ready v + places_of xs v ≡ one (slice_index count v) 0
   pub entries : All (IsEntry g network) ready
   pub so_far : (rest : List ℕ) → IsOrderFrom g network xs rest → IsOrderFrom g network [] (xs ++ rest)
+
+-- what is awaited out of x leads into the network
+abbrev pub LeadsInto : Graph → List ℕ → List Bool → ℕ → Type 0
+LeadsInto g network awaited x = (i : ℕ) → i < length g.wires → from_at g.wires i ≡ x → is_awaited awaited i ≡ true → Listed network (to_at g.wires i)
+
+-- what came to wait for nothing came into the heap
+abbrev pub IsBalanced : Graph → List ℕ → List ℕ → List Entry → List Entry → Type 0
+IsBalanced g old new ready more = (v : ℕ) → v < elements g → entries_of more v + one (slice_index old v) 0 ≡ entries_of ready v + one (slice_index new v) 0
 
 -- the connections out of x from number k on aren't awaited any more
 pub record HasHeard (ws : List Wire) (old new : List Bool) (x k : ℕ) : Type 0 where

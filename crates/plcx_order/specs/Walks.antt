@@ -167,7 +167,8 @@ AreWholeLast g last = AreLast (elements g) g.wires (length g.wires) last
 pub record AreComponents (g : Graph) (places : List Place) : Type 0 where
   pub count : length places ≡ (elements g)
   pub done : (v : ℕ) → v < (elements g) → (c : ℕ) × (get_or places v Unseen ≡ Done c)
-  pub one : (u v c d : ℕ) → u < (elements g) → v < (elements g) → get_or places u Unseen ≡ Done c → get_or places v Unseen ≡ Done d → Reaches (IsWire g.wires) u v → (c ≡ d) ↔ Reaches (IsWire g.wires) v u
+  pub one : (u v c d : ℕ) → u < (elements g) → v < (elements g) → get_or places u Unseen ≡ Done c → get_or places v Unseen ≡ Done d →
+      Reaches (IsWire g.wires) u v → (c ≡ d) ↔ Reaches (IsWire g.wires) v u
 
 -- the stack and the places agree
 pub record Agree (place : List Place) (stack : List ℕ) : Type 0 where

@@ -7,7 +7,7 @@ ghost use Rattle.plcx_model.specs.Paths.{IsLink};
 ghost use Rattle.plcx_model.specs.Shown.{graph_of};
 ghost use Rattle.plcx_model.specs.Networks.{Listed, AreNetworks};
 ghost use Rattle.plcx_order.specs.Walks.{IsLast, AreLast, IsTable};
-ghost use Rattle.plcx_order.specs.Classes.{AreLinks, IsSpread, Spreading, KeepsNumbers, append_if, class_below, left_to_do};
+ghost use Rattle.plcx_order.specs.Classes.{AreLinks, IsSpread, Spreading, KeepsNumbers, append_if, class_below, NoMoreToDo};
 
 use crate::chains::Table;
 use crate::links::{links, neighbours};
@@ -39,7 +39,7 @@ impl Classes {
         ensures met { OnOk result (slice_index self.new.number.items v ≡ slice_index self.new.number.items u) }
         ensures kept { OnOk result (KeepsNumbers self.old.number.items self.new.number.items) }
         ensures firsts { OnOk result (self.new.firsts ≡ self.old.firsts) }
-        ensures less { OnOk result (left_to_do (elements (graph_of wires.now)) self.new.number.items self.new.todo.items ≤ left_to_do (elements (graph_of wires.now)) self.old.number.items self.old.todo.items) }
+        ensures less { OnOk result (NoMoreToDo (graph_of wires.now) self.old.number.items self.old.todo.items self.new.number.items self.new.todo.items) }
     {
         if self.number[v as usize] != 0 {
             return Ok(());
@@ -65,7 +65,7 @@ impl Classes {
         ensures spread { OnOk result (IsSpread (graph_of wires.now) self.new.number.items (Listed self.new.todo.items) self.new.firsts.items) }
         ensures kept { OnOk result (KeepsNumbers self.old.number.items self.new.number.items) }
         ensures firsts { OnOk result (self.new.firsts ≡ self.old.firsts) }
-        ensures less { OnOk result (left_to_do (elements (graph_of wires.now)) self.new.number.items self.new.todo.items ≤ left_to_do (elements (graph_of wires.now)) self.old.number.items self.old.todo.items) }
+        ensures less { OnOk result (NoMoreToDo (graph_of wires.now) self.old.number.items self.old.todo.items self.new.number.items self.new.todo.items) }
     {
         let mut next = last;
         while next > 0 {

@@ -8,7 +8,7 @@ ghost use Rattle.plcx_model.specs.Networks.{Listed, IsNetwork, AreNetworks};
 ghost use Rattle.plcx_model.specs.Feedback.{AreMarks};
 ghost use Rattle.plcx_model.specs.Orders.{IsOrder, AreOrders};
 ghost use Rattle.plcx_order.specs.Walks.{IsLast, IsWholeTable, AreWholeLast};
-ghost use Rattle.plcx_order.specs.Counts.{IsWholeCount, IsWaiting, IsUntouched, LeavesOthers, IsEntry, IsListing, HasHeard, one, entries_of, is_awaited, unlisted};
+ghost use Rattle.plcx_order.specs.Counts.{IsWholeCount, IsWaiting, IsUntouched, LeavesOthers, IsEntry, IsListing, IsBalanced, LeadsInto, HasHeard, one, entries_of, is_awaited, unlisted};
 
 use crate::chains::{Table, chains};
 use crate::rank::rank_of;
@@ -38,7 +38,7 @@ fn tell_one(
     requires entries { All (IsEntry (graph_of wires.now) network.now) ready.old }
     ensures counted { OnOk result (IsWholeCount (graph_of wires.now) waits.new.awaited.items waits.new.count.items) }
     ensures heard { OnOk result (waits.new.awaited.items ≡ slice_set waits.old.awaited.items i false) }
-    ensures balance { OnOk result ((w : ℕ) → w < elements (graph_of wires.now) → entries_of ready.new w + one (slice_index waits.old.count.items w) 0 ≡ entries_of ready.old w + one (slice_index waits.new.count.items w) 0) }
+    ensures balance { OnOk result (IsBalanced (graph_of wires.now) waits.old.count.items waits.new.count.items ready.old ready.new) }
     ensures entries { OnOk result (All (IsEntry (graph_of wires.now) network.now) ready.new) }
 {
     match waits.hear(wires, i, v) {
@@ -65,10 +65,10 @@ fn tell(
     requires last { IsLast (graph_of wires.now).wires (length (graph_of wires.now).wires) x last }
     requires counted { IsWholeCount (graph_of wires.now) waits.old.awaited.items waits.old.count.items }
     requires entries { All (IsEntry (graph_of wires.now) network.now) ready.old }
-    requires inside { (i : ℕ) → i < length (graph_of wires.now).wires → from_at (graph_of wires.now).wires i ≡ x → is_awaited waits.old.awaited.items i ≡ true → Listed network.now (to_at (graph_of wires.now).wires i) }
+    requires inside { LeadsInto (graph_of wires.now) network.now waits.old.awaited.items x }
     ensures counted { OnOk result (IsWholeCount (graph_of wires.now) waits.new.awaited.items waits.new.count.items) }
     ensures heard { OnOk result (HasHeard (graph_of wires.now).wires waits.old.awaited.items waits.new.awaited.items x 0) }
-    ensures balance { OnOk result ((w : ℕ) → w < elements (graph_of wires.now) → entries_of ready.new w + one (slice_index waits.old.count.items w) 0 ≡ entries_of ready.old w + one (slice_index waits.new.count.items w) 0) }
+    ensures balance { OnOk result (IsBalanced (graph_of wires.now) waits.old.count.items waits.new.count.items ready.old ready.new) }
     ensures entries { OnOk result (All (IsEntry (graph_of wires.now) network.now) ready.new) }
 {
     let mut next = last;

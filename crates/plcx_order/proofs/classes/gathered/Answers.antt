@@ -1,4 +1,4 @@
-use Rattle.std.proofs.Common.{◌≡◌, ◌<◌, ◌+◌, ℕ, suc, [], List, length, get_or, slice_index, nat_eq, sym, ◌∙◌, ap, subst, arith}
+use Rattle.std.proofs.Common.{◌≡◌, ◌<◌, ◌+◌, ℕ, suc, [], List, length, get_or, slice_index, nat_eq, sym, ◌∙◌, ap, arith}
 use Rattle.std.proofs.lemmas.List.{get_or_read}
 use Rattle.plcx_order.specs.Classes.{append_if, class_below}
 use Rattle.plcx_order.proofs.classes.gathered.Goals as goal

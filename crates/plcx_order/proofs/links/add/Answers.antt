@@ -1,7 +1,7 @@
-use Rattle.std.proofs.Common.{◌≡◌, sym, ◌∙◌, ap, subst}
+use Rattle.std.proofs.Common.{sym, ◌∙◌, subst}
 use Rattle.plcx_model.specs.declared.source.Wire.{Wire}
 use Rattle.plcx_model.specs.Shown.{graph_of}
-use Rattle.plcx_model.specs.Paths.{IsLink, IsWire}
+use Rattle.plcx_model.specs.Paths.{IsWire}
 use Rattle.plcx_order.specs.Classes.{AreSound}
 use Rattle.plcx_order.proofs.LinkSteps.{sound_more, wire_kept, wire_there}
 use Rattle.std.proofs.Common.{inl, inr}

@@ -1,5 +1,5 @@
-use Rattle.std.proofs.Common.{◌≡◌, ◌+◌, ◌≤◌, sym, ◌∙◌, ap, subst, arith}
-use Rattle.plcx_model.specs.Graph.{TakesPart, from_at, to_at}
+use Rattle.std.proofs.Common.{subst, arith}
+use Rattle.plcx_model.specs.Graph.{TakesPart}
 use Rattle.plcx_model.specs.Paths.{IsWire}
 use Rattle.plcx_model.specs.Shown.{graph_of}
 use Rattle.plcx_order.proofs.LinkSteps.{links_more}

@@ -1,4 +1,4 @@
-use Rattle.std.proofs.Common.{◌≡◌, ◌<◌, ◌≤◌, ℕ, slice_index, take}
+use Rattle.std.proofs.Common.{◌≡◌, ℕ, slice_index, take}
 use Rattle.std.specs.List.{All}
 use Rattle.plcx_model.specs.Shown.{graph_of}
 use Rattle.plcx_model.specs.Networks.{Listed}

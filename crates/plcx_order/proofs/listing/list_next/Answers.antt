@@ -1,5 +1,5 @@
-use Rattle.std.proofs.Common.{◌≡◌, ◌<◌, length, sym, subst, arith, rules}
-use Rattle.plcx_model.specs.Graph.{elements, to_at}
+use Rattle.std.proofs.Common.{◌<◌, length, sym, subst, arith, rules}
+use Rattle.plcx_model.specs.Graph.{elements}
 use Rattle.plcx_model.specs.Shown.{graph_of}
 use Rattle.plcx_model.specs.Networks.{Listed}
 use Rattle.plcx_order.specs.Counts.{IsListing, unlisted}

@@ -1,6 +1,4 @@
-use Rattle.std.proofs.Common.{length, subst}
 use Rattle.plcx_model.specs.Shown.{graph_of}
-use Rattle.plcx_order.specs.Counts.{AreAwaited}
 use Rattle.plcx_order.proofs.InNetwork.{member_part}
 use Rattle.plcx_order.proofs.Listings.{untouched_start}
 use Rattle.plcx_order.proofs.listing.order.Goals as goal

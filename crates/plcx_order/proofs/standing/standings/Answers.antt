@@ -1,9 +1,8 @@
-use Rattle.std.proofs.Common.{◌≡◌, ◌+◌, ◌++◌, ◌∷◌, [], sym, ◌∙◌, ap, subst, arith}
+use Rattle.std.proofs.Common.{◌+◌, ◌++◌, ◌∷◌, [], sym, ◌∙◌, ap, subst, arith}
 use Rattle.plcx_model.specs.Shown.{graph_of}
 use Rattle.plcx_order.specs.declared.rank.Place.{Place}
-use Rattle.plcx_order.specs.declared.standing.Standing.{Standing}
 use Rattle.plcx_order.specs.Ranks.{place_of}
-use Rattle.plcx_order.specs.Classes.{AreStandings, standing_of}
+use Rattle.plcx_order.specs.Classes.{AreStandings}
 use Rattle.plcx_order.proofs.LinkSteps.{standings_more}
 use Rattle.plcx_order.proofs.standing.standings.Goals as goal
 

@@ -1,6 +1,5 @@
 use Rattle.std.proofs.Common.{arith}
 use Rattle.plcx_order.proofs.Turns.{all_done}
-use Rattle.plcx_model.specs.Graph.{elements}
 use Rattle.plcx_model.specs.Shown.{graph_of}
 use Rattle.plcx_order.proofs.walk.components.Goals as goal
 

@@ -1,7 +1,6 @@
 use Rattle.std.proofs.Common.{◌≡◌, ◌<◌, ℕ, length, get_or}
 use Rattle.plcx_order.specs.Walks.{IsUnderWay}
 use Rattle.plcx_order.specs.declared.walk.Place.TheVariants.{Unseen}
-use Rattle.plcx_model.specs.Graph.{elements}
 use Rattle.plcx_model.specs.Shown.{graph_of}
 use Rattle.plcx_order.proofs.walk.components.Given as goal
 

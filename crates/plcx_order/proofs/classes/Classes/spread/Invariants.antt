@@ -1,4 +1,4 @@
-use Rattle.std.proofs.Common.{◌≡◌, ◌<◌, ◌≤◌, ◌-◌, length, slice_index}
+use Rattle.std.proofs.Common.{◌≡◌, ◌<◌, ◌≤◌, ◌-◌, length}
 use Rattle.plcx_model.specs.Graph.{elements, from_at}
 use Rattle.plcx_model.specs.Shown.{graph_of}
 use Rattle.plcx_order.specs.Classes.{IsSpread, Spreading, IsDoneFrom, KeepsNumbers, left_to_do}

@@ -1,5 +1,4 @@
-use Rattle.std.proofs.Common.{◌≡◌, ◌<◌, length, refl, sym, subst, arith}
-use Rattle.plcx_model.specs.Graph.{elements}
+use Rattle.std.proofs.Common.{refl, sym, subst, arith}
 use Rattle.plcx_model.specs.Shown.{graph_of}
 use Rattle.plcx_model.specs.Networks.{Listed}
 use Rattle.plcx_order.proofs.OneOrder.{last_listed}
