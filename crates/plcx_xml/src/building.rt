@@ -169,7 +169,7 @@ fn begin(
     frames.push(Frame {
         name,
         attributes,
-        children: Items::new(alloc),
+        children: Items::from_vec(Vec::with_capacity(alloc, 1)?),
         start,
     })?;
     Ok(Build::Open(frames))

@@ -1,5 +1,5 @@
 //! The token at the front of bytes, with the memory that it takes.
-ghost use Rattle.std.specs.Prelude.{◌≡◌, IfOk};
+ghost use Rattle.std.specs.Prelude.{◌≡◌, [], IfOk};
 ghost use Rattle.std.specs.Option.{option_map};
 ghost use Rattle.plcx_xml.specs.Reads.{span_between, attribute_at, attributes_at, end_token, text_token, tag_token, reference_token, comment_token, instruction_token, cdata_token, other_token, token_at};
 
@@ -44,6 +44,16 @@ fn attribute_of(
     }
 }
 
+/// A list with room for the attributes of most tags, if there is any.
+fn room(alloc: Global, bytes: &[u8]) -> Result<Vec<Attribute>, AllocError>
+    ensures { IfOk result (λ list. list.items ≡ []) }
+{
+    if bytes.is_empty() || bytes[0] == b'>' || bytes[0] == b'/' {
+        return Ok(Vec::new(alloc));
+    }
+    Vec::with_capacity(alloc, 2)
+}
+
 fn attributes_of(
     alloc: Global,
     last: u64,
@@ -51,7 +61,7 @@ fn attributes_of(
 ) -> Result<(Items<Attribute>, &[u8]), AllocError>
     ensures { IfOk result (λ found. (found.0, found.1.now) ≡ attributes_at last bytes.now) }
 {
-    let mut found = Vec::new(alloc);
+    let mut found = room(alloc, bytes)?;
     let mut rest = bytes;
     for turn in 0..bytes.len() {
         match attribute_of(alloc, last, rest)? {
