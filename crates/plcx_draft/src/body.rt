@@ -9,7 +9,9 @@ ghost use Rattle.plcx_draft.specs.BodyIn.{is_marked, edge_in, storage_in, modifi
 
 use crate::part::{Part, copied, first_child, first_part, more, parts_in, text_under};
 use plcx_model::{Body, BodyElement, Connection, Edge, Kind, Mods, PinIn, PinOut, Storage};
-use plcx_table::{Fate, Row, attribute_of, coordinate, fate_for, first_value, number, number_at, same};
+use plcx_table::{
+    Fate, Row, attribute_of, coordinate, fate_for, first_value, number, number_at, same,
+};
 use plcx_xml::{Element, Node};
 use sqlite_items::Items;
 use std::alloc::{AllocError, Global};
@@ -357,11 +359,7 @@ fn read_element(
 {
     match kind_in(alloc, row, element)? {
         None => Ok(None),
-        Some(kind) => Ok(Some(placed_at(
-            element,
-            first_child(element, "position"),
-            kind,
-        ))),
+        Some(kind) => Ok(Some(placed_at(element, first_child(element, "position"), kind))),
     }
 }
 

@@ -48,10 +48,7 @@ pub fn more<P: Part>(
 }
 
 /// The children that are such parts, if the element is there.
-pub fn parts_in<P: Part>(
-    alloc: Global,
-    element: Option<&Element>,
-) -> Result<Items<P>, AllocError>
+pub fn parts_in<P: Part>(alloc: Global, element: Option<&Element>) -> Result<Items<P>, AllocError>
     ensures { IfOk result (λ items. items ≡ parts_in P.part (option_copied element.entry)) }
 {
     match element {

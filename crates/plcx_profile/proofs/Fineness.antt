@@ -1,10 +1,10 @@
 -- Drafts whose names break no rule, and their projects.
-use Rattle.std.proofs.Common.{◌≡◌, ℕ, suc, Bool, true, false, ◌&&◌, ◌||◌, not, List, [], ◌∷◌, ◌++◌, length, map, reverse, None, append_assoc, length-append, refl, sym, ap, ◌∙◌, arith}
+use Rattle.std.proofs.Common.{◌≡◌, ℕ, Bool, true, false, ◌&&◌, List, [], ◌∷◌, ◌++◌, length, map, reverse, None, append_assoc, length-append, refl, sym, ap, ◌∙◌, arith}
 use Rattle.std.specs.List.{list_all, flat_map}
 use Rattle.std.proofs.lemmas.List.Folds.{list_all-map}
 use Rattle.std.proofs.lemmas.List.{reverse-append}
 use Rattle.plcx_types.specs.Name.{is_identifier}
-use Rattle.plcx_model.specs.Verdict.{Never, Verdict, Kept, Next}
+use Rattle.plcx_model.specs.Verdict.{Never, Next}
 use Rattle.plcx_model.specs.declared.project.Pou.{Pou}
 use Rattle.plcx_draft.specs.declared.draft.DraftVariable.{DraftVariable}
 use Rattle.plcx_draft.specs.declared.draft.DraftList.{DraftList}
@@ -13,7 +13,7 @@ use Rattle.plcx_draft.specs.declared.draft.Draft.{Draft}
 use Rattle.plcx_profile.specs.declared.judging.DeclarationRule.TheVariants.{Names}
 use Rattle.plcx_profile.specs.declared.settling.Head.{Head}
 use Rattle.plcx_profile.specs.Declarations.{Declared, OfVariable, in_list, in_pou, declared_in, name_of}
-use Rattle.plcx_profile.specs.Fine.{is_fine, is_fine_list, is_fine_pou}
+use Rattle.plcx_profile.specs.Fine.{is_fine_list, is_fine_pou}
 use Rattle.plcx_profile.specs.Heads.{head_of, with_head, joined}
 use Rattle.plcx_profile.specs.Judged.{breaks, BreaksIn, DeclarationVerdict}
 use Rattle.plcx_profile.specs.Names.{is_bad_name}
@@ -79,7 +79,8 @@ pub joined_step : (hs : List Head) (ps : List DraftPou) (h : Head) (p : DraftPou
 joined_step hs ps h p all total same made =
     let left = length-append hs (h ∷ []) in
     let right = length-append ps (p ∷ []) in
-    let equal : length hs ≡ length ps = omega arith in
-    (equal,
-     ap (λ r. joined hs ps ++ r) (reverse-append all (with_head h p ∷ [])) ∙ sym (append_assoc (joined hs ps) (with_head h p ∷ []) (reverse all))
-     ∙ ap (λ xs. xs ++ reverse all) (sym (joined_more hs ps h p equal)) ∙ made)
+    let equal : length hs ≡ length ps = omega arith in (
+      equal,
+      ap (λ r. joined hs ps ++ r) (reverse-append all (with_head h p ∷ [])) ∙ sym (append_assoc (joined hs ps) (with_head h p ∷ []) (reverse all))
+          ∙ ap (λ xs. xs ++ reverse all) (sym (joined_more hs ps h p equal)) ∙ made,
+    )

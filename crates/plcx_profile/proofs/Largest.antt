@@ -1,7 +1,7 @@
 -- The first POU that is too large.
-use Rattle.std.proofs.Common.{◌≡◌, ℕ, suc, zero, ◌+◌, Bool, true, false, ◌||◌, nat_lt, cond, List, [], ◌∷◌, ◌++◌, map, Option, Some, None, option_map, slice_get, append_assoc, refl, sym, ap, ◌∙◌, arith}
+use Rattle.std.proofs.Common.{◌≡◌, ℕ, suc, zero, ◌+◌, Bool, true, false, cond, List, [], ◌∷◌, ◌++◌, map, Option, Some, None, option_map, slice_get, append_assoc, refl, sym, ap, ◌∙◌, arith}
 use Rattle.std.specs.List.{find, flat_map}
-use Rattle.plcx_types.specs.Limits.{max_instance_chain, max_leaves, max_parts}
+use Rattle.plcx_types.specs.Limits.{max_instance_chain}
 use Rattle.plcx_model.specs.Verdict.{first_breaking}
 use Rattle.plcx_model.proofs.Judging.{as-find}
 use Rattle.plcx_draft.specs.declared.draft.DraftVariable.{DraftVariable}
@@ -59,7 +59,7 @@ module _ (all : List DraftPou) where
       let none : i + 0 ≡ i = omega arith in
       let here : slice_get all i ≡ Some p = ap (slice_get all) (sym none) ∙ rest 0 in
       rw (count_here Leaves (max_instance_chain + 1) i p here, count_here Parts (max_instance_chain + 1) i p here)
-        (place_or (is_large p) p _ (find is_large ps) (above_from (i + 1) ps (λ k. let next : i + 1 + k ≡ i + suc k = omega arith in ap (slice_get all) next ∙ rest (suc k))))
+      (place_or (is_large p) p _ (find is_large ps) (above_from (i + 1) ps (λ k. let next : i + 1 + k ≡ i + suc k = omega arith in ap (slice_get all) next ∙ rest (suc k))))
 
   pub above_is : first_above (map (total (contents all) Leaves (max_instance_chain + 1)) (contents all)) (map (total (contents all) Parts (max_instance_chain + 1)) (contents all)) 0 all ≡ option_map start_of (first_breaking (breaks_size all) [] (flat_map in_pou all))
   above_is =

@@ -1,6 +1,6 @@
 -- Flags and counts of one level more, and the first POU that is too large.
-use Rattle.std.proofs.Common.{◌≡◌, ℕ, suc, zero, ◌+◌, Bool, true, false, ◌||◌, nat_lt, cond, List, [], ◌∷◌, ◌++◌, map, fold, Option, Some, None, option_map, option_and_then, slice_get, refl, sym, ap, ◌∙◌, arith}
-use Rattle.std.specs.List.{list_any, find, flat_map}
+use Rattle.std.proofs.Common.{◌≡◌, ℕ, suc, zero, ◌+◌, Bool, true, List, [], ◌∷◌, map, fold, Option, Some, None, option_map, slice_get, refl, ap, ◌∙◌, arith}
+use Rattle.std.specs.List.{list_any}
 use Rattle.plcx_profile.specs.declared.sizes.Content.{Content}
 use Rattle.plcx_profile.specs.declared.sizes.Size.{Size}
 use Rattle.plcx_profile.specs.Rounds.{flag_or, count_or, reached, summed}

@@ -1,5 +1,5 @@
 -- What a file declares, in document order: its POUs, each before its variables.
-use Rattle.std.specs.Prelude.{ℕ, Bool, true, false, List, [], ◌∷◌, map}
+use Rattle.std.specs.Prelude.{ℕ, List, ◌∷◌, map}
 use Rattle.std.specs.List.{flat_map}
 use Rattle.plcx_draft.specs.declared.draft.DraftVariable.{DraftVariable}
 use Rattle.plcx_draft.specs.declared.draft.DraftList.{DraftList}

@@ -1,5 +1,5 @@
 -- Serves proofs: drafts whose names are identifiers.
-use Rattle.std.specs.Prelude.{Bool, ◌&&◌, List}
+use Rattle.std.specs.Prelude.{Bool, ◌&&◌}
 use Rattle.std.specs.List.{list_all}
 use Rattle.plcx_types.specs.Name.{is_identifier}
 use Rattle.plcx_draft.specs.declared.draft.DraftVariable.{DraftVariable}

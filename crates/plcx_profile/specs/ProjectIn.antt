@@ -1,5 +1,5 @@
 -- The project that a file stands for, and when it does.
-use Rattle.std.specs.Prelude.{◌≡◌, ℕ, List, map, Option, Some, None}
+use Rattle.std.specs.Prelude.{ℕ, List, map, Option, Some, None}
 use Rattle.plcx_types.specs.Value.{Value}
 use Rattle.plcx_types.specs.declared.ty.Ty.TheVariants as ty
 use Rattle.plcx_model.specs.declared.project.VarTy.{VarTy}
@@ -10,7 +10,7 @@ use Rattle.plcx_model.specs.declared.project.Pou.{Pou}
 use Rattle.plcx_model.specs.declared.project.Project.{Project}
 use Rattle.plcx_draft.specs.BodyIn.{nonempty}
 use Rattle.plcx_draft.specs.declared.draft.DraftType.{DraftType}
-use Rattle.plcx_draft.specs.declared.draft.DraftType.TheVariants.{Plain, Derived}
+use Rattle.plcx_draft.specs.declared.draft.DraftType.TheVariants.{Plain}
 use Rattle.plcx_draft.specs.declared.draft.DraftVariable.{DraftVariable}
 use Rattle.plcx_draft.specs.declared.draft.DraftList.{DraftList}
 use Rattle.plcx_draft.specs.declared.draft.DraftPou.{DraftPou}

@@ -1,7 +1,4 @@
 -- What is declared, as the code sees it.
-use Rattle.std.specs.Prelude.{◌≡◌, ℕ, List}
-use Rattle.std.specs.Str.{bytes_eq}
-use Rattle.std.specs.HashSet.{HashSet, contains_by}
 use Rattle.plcx_profile.specs.declared.declaration.Declaration as code
 use Rattle.plcx_profile.specs.declared.declaration.Declaration.TheVariants as variant
 use Rattle.plcx_profile.specs.Declarations.{Declared, OfPou, OfVariable}

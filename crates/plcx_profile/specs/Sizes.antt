@@ -1,5 +1,5 @@
 -- The rules on how deep instances stand in one another, and on how many leaves and parts a POU has with them.
-use Rattle.std.specs.Prelude.{ℕ, suc, zero, ◌+◌, ◌^◌, Bool, true, false, ◌||◌, nat_lt, min, fold, length, List, [], ◌∷◌, ◌++◌, map, Option, Some, None, option_to_list, option_and_then, slice_get}
+use Rattle.std.specs.Prelude.{ℕ, suc, zero, ◌+◌, ◌^◌, Bool, true, false, ◌||◌, nat_lt, min, fold, length, List, [], ◌++◌, map, Option, Some, None, option_to_list, option_and_then, slice_get}
 use Rattle.std.specs.List.{list_any}
 use Rattle.plcx_types.specs.Limits.{max_instance_chain, max_leaves, max_parts}
 use Rattle.plcx_std.specs.Pins.{pins}
@@ -18,7 +18,7 @@ use Rattle.plcx_draft.specs.declared.draft.DraftVariable.{DraftVariable}
 use Rattle.plcx_draft.specs.declared.draft.DraftList.{DraftList}
 use Rattle.plcx_draft.specs.declared.draft.DraftPou.{DraftPou}
 use Rattle.plcx_profile.specs.Declarations.{Declared, OfPou, OfVariable}
-use Rattle.plcx_profile.specs.Types.{type_meant, is_in_out}
+use Rattle.plcx_profile.specs.Types.{type_meant}
 
 -- so many more; no count goes past 2^22, which is more than there may be of anything
 abbrev pub plus : ℕ → ℕ → ℕ

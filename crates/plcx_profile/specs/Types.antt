@@ -1,11 +1,11 @@
 -- The rules on types and initial values of variables.
-use Rattle.std.specs.Prelude.{ℕ, Bool, true, false, not, ◌&&◌, ◌||◌, List, [], ◌∷◌, Option, Some, None, is_some, is_none, nat_lt, ◌^◌, if◌then◌else◌}
+use Rattle.std.specs.Prelude.{ℕ, Bool, true, false, not, ◌&&◌, ◌||◌, List, [], Option, Some, None, is_some, is_none, nat_lt, ◌^◌, if◌then◌else◌}
 use Rattle.std.specs.Str.{bytes_eq}
 use Rattle.plcx_types.specs.ReadLiteral.{value_of}
 use Rattle.plcx_std.specs.Kind.{kind_named}
 use Rattle.plcx_std.specs.declared.kind.StdKind.{StdKind}
 use Rattle.plcx_model.specs.declared.project.ListClass.{ListClass}
-use Rattle.plcx_model.specs.declared.project.ListClass.TheVariants.{Local, Input, Output, InOut}
+use Rattle.plcx_model.specs.declared.project.ListClass.TheVariants.{Local, InOut}
 use Rattle.plcx_model.specs.declared.project.VarTy.{VarTy}
 use Rattle.plcx_model.specs.declared.project.VarTy.TheVariants as var
 use Rattle.plcx_draft.specs.declared.draft.DraftType.{DraftType}

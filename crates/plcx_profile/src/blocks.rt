@@ -67,10 +67,7 @@ fn with_pou(
     Ok(with_key(table, place, key)?)
 }
 
-fn places_in(
-    alloc: Global,
-    pous: &[DraftPou],
-) -> Result<IndexMap<Vec<u8>, usize>, AllocError>
+fn places_in(alloc: Global, pous: &[DraftPou]) -> Result<IndexMap<Vec<u8>, usize>, AllocError>
     ensures { IfOk result (λ table. Tells pous.now table.entries) }
 {
     let mut table = IndexMap::new(alloc);

@@ -41,11 +41,7 @@ fn address_key(alloc: Global, address: &[u8]) -> Result<Option<Vec<u8>>, AllocEr
     }
 }
 
-fn key_of(
-    alloc: Global,
-    once: Once,
-    item: &Declaration,
-) -> Result<Option<Vec<u8>>, AllocError>
+fn key_of(alloc: Global, once: Once, item: &Declaration) -> Result<Option<Vec<u8>>, AllocError>
     ensures { IfOk result (λ key. option_map (λ k. k.items) key ≡ key_of once (shown item.now)) }
 {
     match (once, item) {

@@ -101,11 +101,7 @@ fn list_of(alloc: Global, blocks: &Blocks, list: &DraftList) -> Result<VarList, 
     })
 }
 
-fn lists_of(
-    alloc: Global,
-    blocks: &Blocks,
-    lists: &[DraftList],
-) -> Result<Items<VarList>, NoMemory>
+fn lists_of(alloc: Global, blocks: &Blocks, lists: &[DraftList]) -> Result<Items<VarList>, NoMemory>
     requires { list_all is_fine_list lists.now ≡ true }
     ensures { IfOk result (λ all. all ≡ map (list_of blocks.now) lists.now) }
 {

@@ -8,8 +8,8 @@ ghost use Rattle.plcx_profile.specs.Rounds.{flag_or, count_or, reached, summed, 
 ghost use Rattle.plcx_profile.specs.Seen.{shown};
 ghost use Rattle.plcx_profile.specs.Sizes.{plus, place_in, block_of, leaves_as, own_leaves, parts_as, with_pins, with_kind, body_parts, with_variable, with_list, content_of, contents, reaches, own, total, breaks_chain, breaks_size};
 
-use crate::declaration::{Declaration, start_of};
 use crate::blocks::Blocks;
+use crate::declaration::{Declaration, start_of};
 use crate::types::type_meant;
 use plcx_draft::{DraftList, DraftPou, DraftVariable};
 use plcx_model::{BodyElement, Kind, ListClass, PinIn, VarTy};
@@ -113,7 +113,9 @@ fn with_kind(n: u64, kind: &Kind) -> u64
         | Kind::Jump { input, .. }
         | Kind::Return { input } => plus(n, input.len() as u64),
         Kind::Block {
-            inputs, in_outs, ..
+            inputs,
+            in_outs,
+            ..
         } => with_pins(with_pins(n, inputs.as_slice()), in_outs.as_slice()),
         Kind::Skipped
         | Kind::LeftRail

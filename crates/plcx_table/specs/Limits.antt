@@ -1,5 +1,5 @@
 -- The rule on how much there may be: what is counted in the elements up to one, and how much of it is too much.
-use Rattle.std.specs.Prelude.{ℕ, ◌+◌, Bool, ◌||◌, ◌≤◌, nat_lt, List, [], ◌∷◌}
+use Rattle.std.specs.Prelude.{◌+◌, Bool, ◌||◌, ◌≤◌, nat_lt, List, [], ◌∷◌}
 use Rattle.plcx_types.specs.Limits.{max_pous, max_variables, max_elements, max_connections, max_pin_connections, max_pins}
 use Rattle.plcx_table.specs.declared.row.Row.TheVariants.{Program, FunctionBlock, Variable, Diagram, Comment, Vendor, Block, InputPins, InOutPins, InputPin, InOutPin, PointIn, Connection, RailConnection}
 use Rattle.plcx_table.specs.declared.row.Row.TheVariants.{InVariable, OutVariable, Contact, Coil, Connector, Continuation, Label, Jump, Return, LeftRail, RightRail}

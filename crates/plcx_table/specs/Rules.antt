@@ -1,5 +1,5 @@
 -- The rules on the structure of a file and on its attributes: each looks at one element.
-use Rattle.std.specs.Prelude.{◌≡◌, ℕ, ◌<◌, Bool, true, false, not, ◌&&◌, ◌||◌, nat_eq, nat_lt, length, List, [], ◌∷◌, codes, fold, Option, Some, None, is_some}
+use Rattle.std.specs.Prelude.{ℕ, Bool, true, false, not, ◌&&◌, ◌||◌, nat_eq, nat_lt, length, List, [], ◌∷◌, codes, fold, Option, Some, None}
 use Rattle.std.specs.List.{list_any}
 use Rattle.std.specs.Str.{bytes_eq}
 use Rattle.plcx_types.specs.ReadAddress.{is_address}
@@ -91,4 +91,3 @@ breaks_attributes namespace (Read row) e = has_bad_field row e || has_bad_namesp
 breaks_attributes namespace (Refused row) e = has_bad_field row e || has_bad_namespace namespace e
 breaks_attributes namespace (Skipped row) e = has_bad_field row e
 breaks_attributes namespace _ e = false
-

@@ -17,9 +17,9 @@ mod table;
 mod verdict;
 mod walk;
 
+pub use decimal::{coordinate, number};
 pub use fate::fate_for;
 pub use laws::one_format_verdict;
 pub use look::{attribute_of, first_value, number_at, same};
-pub use decimal::{coordinate, number};
 pub use row::{Fate, Form, FormatRule, Often, Row, Seat, Taken};
 pub use verdict::format_verdict;

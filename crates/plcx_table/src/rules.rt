@@ -7,9 +7,9 @@ ghost use Rattle.plcx_types.specs.ReadAddress.{is_address};
 ghost use Rattle.plcx_table.specs.Shown.{shown_child, shown_field};
 ghost use Rattle.plcx_table.specs.Rules.{taken_by, is_open, lacks_child, has_stray_text, breaks_structure, has_form, is_bad, is_bad_field, has_bad_field, has_bad_namespace, breaks_attributes};
 
+use crate::decimal::{coordinate, number};
 use crate::fate::{is_taken, none_taken, taken_behind};
 use crate::look::{has_text, is_among, same, value_at};
-use crate::decimal::{coordinate, number};
 use crate::row::{Fate, Form, Often, Row, Taken};
 use crate::table::{Child, Field, attributes, children, holds_text};
 use plcx_types::is_address;

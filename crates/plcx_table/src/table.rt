@@ -73,9 +73,7 @@ static TYPES: [Child; 2] = [
     child!("pous" once Second Read Pous),
 ];
 
-static DATA_TYPES: [Child; 1] = [
-    child!("dataType" any Refused Bare),
-];
+static DATA_TYPES: [Child; 1] = [child!("dataType" any Refused Bare)];
 
 static POUS: [Child; 3] = [
     child!("pou" "pouType" "function" any Refused Function),
@@ -121,13 +119,9 @@ static BLOCK_INTERFACE: [Child; 9] = [
     child!("returnType" maybe First Refused Bare),
 ];
 
-static VARIABLE_LIST: [Child; 1] = [
-    child!("variable" any Read Variable),
-];
+static VARIABLE_LIST: [Child; 1] = [child!("variable" any Read Variable)];
 
-static OUTSIDE_LIST: [Child; 1] = [
-    child!("variable" any Refused Variable),
-];
+static OUTSIDE_LIST: [Child; 1] = [child!("variable" any Refused Variable)];
 
 static VARIABLE: [Child; 2] = [
     child!("type" once First Read OneType),
@@ -217,30 +211,20 @@ static BLOCK: [Child; 4] = [
     child!("outputVariables" maybe Fourth Read OutputPins),
 ];
 
-static INPUT_PINS: [Child; 1] = [
-    child!("variable" any Read InputPin),
-];
+static INPUT_PINS: [Child; 1] = [child!("variable" any Read InputPin)];
 
-static IN_OUT_PINS: [Child; 1] = [
-    child!("variable" any Read InOutPin),
-];
+static IN_OUT_PINS: [Child; 1] = [child!("variable" any Read InOutPin)];
 
-static OUTPUT_PINS: [Child; 1] = [
-    child!("variable" any Read OutputPin),
-];
+static OUTPUT_PINS: [Child; 1] = [child!("variable" any Read OutputPin)];
 
-static INPUT_PIN: [Child; 1] = [
-    child!("connectionPointIn" maybe First Read PointIn),
-];
+static INPUT_PIN: [Child; 1] = [child!("connectionPointIn" maybe First Read PointIn)];
 
 static IN_OUT_PIN: [Child; 2] = [
     child!("connectionPointIn" maybe First Read PointIn),
     child!("connectionPointOut" maybe Second Read PointOut),
 ];
 
-static OUTPUT_PIN: [Child; 1] = [
-    child!("connectionPointOut" maybe First Read PointOut),
-];
+static OUTPUT_PIN: [Child; 1] = [child!("connectionPointOut" maybe First Read PointOut)];
 
 static POINT_IN: [Child; 4] = [
     child!("relPosition" maybe First Skipped Bare),
@@ -262,9 +246,7 @@ static RAIL_POINT: [Child; 4] = [
     child!("expression" maybe Second Read TextAlone),
 ];
 
-static CONNECTION: [Child; 1] = [
-    child!("position" any Skipped Bare),
-];
+static CONNECTION: [Child; 1] = [child!("position" any Skipped Bare)];
 
 static IN_VARIABLE: [Child; 3] = [
     child!("position" maybe First Read Position),
@@ -295,9 +277,7 @@ static CONTINUATION: [Child; 2] = [
     child!("connectionPointOut" maybe Second Read PointOut),
 ];
 
-static LABEL: [Child; 1] = [
-    child!("position" maybe First Read Position),
-];
+static LABEL: [Child; 1] = [child!("position" maybe First Read Position)];
 
 static LEFT_RAIL: [Child; 2] = [
     child!("position" maybe First Read Position),
@@ -309,14 +289,9 @@ static RIGHT_RAIL: [Child; 2] = [
     child!("connectionPointIn" any Read RailPoint),
 ];
 
-static PROJECT_FIELDS: [Field; 1] = [
-    field!("xmlns" needed Namespace),
-];
+static PROJECT_FIELDS: [Field; 1] = [field!("xmlns" needed Namespace)];
 
-static PROGRAM_FIELDS: [Field; 2] = [
-    field!("name" needed Text),
-    field!("pouType" needed PouType),
-];
+static PROGRAM_FIELDS: [Field; 2] = [field!("name" needed Text), field!("pouType" needed PouType)];
 
 static VARIABLE_LIST_FIELDS: [Field; 2] = [
     field!("constant" optional Boolean),
@@ -328,17 +303,11 @@ static VARIABLE_FIELDS: [Field; 2] = [
     field!("address" optional Address),
 ];
 
-static DERIVED_FIELDS: [Field; 1] = [
-    field!("name" needed Text),
-];
+static DERIVED_FIELDS: [Field; 1] = [field!("name" needed Text)];
 
-static SIMPLE_VALUE_FIELDS: [Field; 1] = [
-    field!("value" needed Text),
-];
+static SIMPLE_VALUE_FIELDS: [Field; 1] = [field!("value" needed Text)];
 
-static COMMENT_FIELDS: [Field; 1] = [
-    field!("localId" needed Whole),
-];
+static COMMENT_FIELDS: [Field; 1] = [field!("localId" needed Whole)];
 
 static BLOCK_FIELDS: [Field; 4] = [
     field!("localId" needed Whole),
@@ -384,10 +353,7 @@ static RETURN_FIELDS: [Field; 2] = [
     field!("executionOrderId" optional Whole),
 ];
 
-static POSITION_FIELDS: [Field; 2] = [
-    field!("x" needed Coordinate),
-    field!("y" needed Coordinate),
-];
+static POSITION_FIELDS: [Field; 2] = [field!("x" needed Coordinate), field!("y" needed Coordinate)];
 
 /// The children that an element may have, by what it is read as. The first that fits counts.
 pub fn children(row: Row) -> &'static [Child]

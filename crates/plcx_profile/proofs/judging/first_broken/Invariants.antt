@@ -1,4 +1,4 @@
-use Rattle.std.proofs.Common.{◌≡◌, ℕ, Option, drop, map}
+use Rattle.std.proofs.Common.{ℕ, Option, drop, map}
 use Rattle.plcx_model.specs.Verdict.{Verdict}
 use Rattle.plcx_profile.specs.declared.judging.DeclarationRule.{DeclarationRule}
 use Rattle.plcx_profile.specs.Judged.{BreaksIn, place_of}

@@ -1,4 +1,4 @@
-use Rattle.std.proofs.Common.{◌≡◌, ℕ, Bool, List, map, sym, ◌∙◌}
+use Rattle.std.proofs.Common.{map, sym, ◌∙◌}
 use Rattle.plcx_model.proofs.Judging.{broken, next, kept}
 use Rattle.plcx_table.specs.declared.row.FormatRule.TheVariants.{Structure}
 use Rattle.plcx_table.specs.Flat.{shown_item}

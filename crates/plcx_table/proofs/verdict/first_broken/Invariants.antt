@@ -1,4 +1,4 @@
-use Rattle.std.proofs.Common.{◌≡◌, ℕ, Option, drop, map}
+use Rattle.std.proofs.Common.{ℕ, Option, drop, map}
 use Rattle.plcx_model.specs.Verdict.{Verdict}
 use Rattle.plcx_table.specs.declared.row.FormatRule.{FormatRule}
 use Rattle.plcx_table.specs.Flat.{shown_item, BreaksIn}

@@ -1,4 +1,4 @@
-use Rattle.std.proofs.Common.{◌≡◌, ◌-◌, sym, ◌∙◌, arith}
+use Rattle.std.proofs.Common.{◌-◌, ◌∙◌, arith}
 use Rattle.plcx_table.proofs.Listing.{one-more}
 use Rattle.plcx_table.proofs.walk.+walk.Goals as goal
 
