@@ -85,9 +85,10 @@ fn all_below(pins: &[Items<Source>], count: u32) -> bool
 pub fn has_graph(elements: &[BodyElement], pins: &[Items<Source>]) -> bool
     ensures { result ≡ true → HasGraph elements.now pins.now }
 {
-    let Ok(count) = u32::try_from(elements.len()) else {
+    if elements.len() > 65536 {
         return false;
-    };
+    }
+    let count = elements.len() as u32;
     if elements.len() != pins.len() {
         return false;
     }
