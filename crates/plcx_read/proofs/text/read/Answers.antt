@@ -14,14 +14,14 @@ pub returns-clause-only : goal.returns-clause-only
 returns-clause-only c = λ u d le stands.
     let bytes = c.args.bytes.now in
     let same = c.deref.ensures.value ∙ c.in_ok-lexemes.ensures in
-    let made = subst (AreTextTokens bytes) (sym same) c.in_ok-tokens.ensures in
+    let made = subst (AreTextTokens bytes) (sym same) c.in_ok-tokens.ensures.tokens in
     read_only c.deref.result.now c.in_ok-pous.pous u c.in_ok-pous.ensures (reads bytes c.deref.result.now u d made le stands)
 
 pub returns-in_err-pous-clause-only : goal.returns-in_err-pous-clause-only
 returns-in_err-pous-clause-only c = λ u d le stands.
     let bytes = c.args.bytes.now in
     let same = c.deref.ensures.value ∙ c.in_ok-lexemes.ensures in
-    let made = subst (AreTextTokens bytes) (sym same) c.in_ok-tokens.ensures in
+    let made = subst (AreTextTokens bytes) (sym same) c.in_ok-tokens.ensures.tokens in
     let p = err_from_is_err_and c.from_residual-in_err-pous.result c.from_residual-in_err-pous.ensures.1 in
     rw (p.1, p.2) (error_only c.deref.result.now c.deref.result.now (length bytes) c.in_err-pous.field-0.0 u refl c.in_err-pous.ensures (reads bytes c.deref.result.now u d made le stands))
 
@@ -29,6 +29,6 @@ pub returns-in_err-pous-clause-fails : goal.returns-in_err-pous-clause-fails
 returns-in_err-pous-clause-fails c =
     let bytes = c.args.bytes.now in
     let same = c.deref.ensures.value ∙ c.in_ok-lexemes.ensures in
-    let made = subst (AreTextTokens bytes) (sym same) c.in_ok-tokens.ensures in
+    let made = subst (AreTextTokens bytes) (sym same) c.in_ok-tokens.ensures.tokens in
     let p = err_from_is_err_and c.from_residual-in_err-pous.result c.from_residual-in_err-pous.ensures.1 in
     rw (p.1, p.2) (error_fails bytes c.deref.result.now c.in_err-pous.field-0.0 made c.in_err-pous.ensures)
