@@ -1,6 +1,8 @@
 use Rattle.std.proofs.Common.{◌≤◌, ◌<◌, drop, length}
 use Rattle.plcx_model.specs.Lists.{Each}
 use Rattle.plcx_model.specs.declared.source.Source.{Source}
+use Rattle.plcx_model.specs.Numbering.{LocalIdsDiffer}
+use Rattle.plcx_order_rows.specs.Tested.{HasOnePin, OtherId, AreBelow}
 use Rattle.plcx_order_rows.proofs.build.are_below.Given as goal
 
 abbrev pub invariant-loop-k : goal.invariant-loop-k

@@ -1,4 +1,4 @@
-use Rattle.std.proofs.Common.{◌<◌, ◌^◌, length, arith}
+use Rattle.std.proofs.Common.{◌≡◌, ◌<◌, ◌^◌, length, arith}
 use Rattle.plcx_order_rows.proofs.Steps.{has}
 use Rattle.plcx_order_rows.proofs.build.has_graph.Goals as goal
 
