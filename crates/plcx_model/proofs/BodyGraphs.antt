@@ -1,11 +1,11 @@
 -- The graph of a body is one.
-use Rattle.std.proofs.Common.{◌≡◌, ℕ, zero, suc, ◌+◌, ◌<◌, ◌≤◌, ◌⊎◌, inl, inr, List, [], ◌∷◌, ◌++◌, length, map, take, drop, get_or, None, pos, Bool, append_assoc, refl, sym, ◌∙◌, ap, subst, arith}
+use Rattle.std.proofs.Common.{◌≡◌, ℕ, zero, suc, ◌+◌, ◌<◌, ◌≤◌, List, [], ◌∷◌, ◌++◌, length, map, take, drop, get_or, None, pos, Bool, append_assoc, refl, sym, ◌∙◌, ap, arith}
 use Rattle.plcx_model.specs.Lists.{Each}
 use Rattle.plcx_model.specs.declared.body.BodyElement.{BodyElement}
 use Rattle.plcx_model.specs.declared.key.Key.{Key}
 use Rattle.plcx_model.specs.declared.source.Source.{Source}
 use Rattle.plcx_model.specs.declared.source.Wire.{Wire}
-use Rattle.plcx_model.specs.Graph.{Graph, IsGraph, AreWithin, IdsDiffer, elements, key_at, from_at, to_at}
+use Rattle.plcx_model.specs.Graph.{Graph, IsGraph}
 use Rattle.plcx_model.specs.Numbering.{key_of, kind_takes_part, pins_of, wires_at_pin, wires_at_pins, wires_from, body_graph, pins_in, LocalIdsDiffer, HasGraph}
 
 length_map : {A B : Type 0} (f : A → B) (xs : List A) → length (map f xs) ≡ length xs

@@ -1,5 +1,5 @@
 -- A body as a graph.
-use Rattle.std.specs.Prelude.{◌≡◌, ℕ, pos, ◌<◌, ◌^◌, List, Bool, true, false, Some, None, length, get_or}
+use Rattle.std.specs.Prelude.{◌≡◌, ℕ, pos, ◌<◌, ◌^◌, List, Bool, true, false, None, length, get_or}
 use Rattle.std.specs.Ordering.{is_gt}
 use Rattle.std.specs.declared.cmp.Ordering.TheVariants.{Less}
 use Rattle.plcx_model.specs.declared.key.Key.{Key}

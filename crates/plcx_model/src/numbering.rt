@@ -44,7 +44,9 @@ fn pins_of(kind: &Kind) -> usize
     match kind {
         Kind::Skipped | Kind::LeftRail | Kind::In { .. } | Kind::Label { .. } => 0,
         Kind::Block {
-            inputs, in_outs, ..
+            inputs,
+            in_outs,
+            ..
         } => inputs.len() + in_outs.len(),
         _ => 1,
     }

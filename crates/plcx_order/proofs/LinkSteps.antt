@@ -96,7 +96,7 @@ none_less_later xs d s i (suc k) h =
     let before = none_less_later xs d s i k (omega arith) in
     let next : (i + k) + 1 ≡ i + suc k = omega arith in
     let last : is_gt (standing_cmp (get_or xs (i + k) d) (get_or xs (i + suc k) d)) ≡ false = not_greater (standing_cmp (get_or xs (i + suc k) d) (get_or xs (i + k) d)) (standing_cmp (get_or xs (i + k) d) (get_or xs (i + suc k) d)) (standings_total.antisymm (get_or xs (i + k) d) (get_or xs (i + suc k) d))
-        (subst (λ j. is_lt (standing_cmp (get_or xs j d) (get_or xs (i + k) d)) ≡ false) next (s (i + k) d (omega arith) (omega arith))) in
+    (subst (λ j. is_lt (standing_cmp (get_or xs j d) (get_or xs (i + k) d)) ≡ false) next (s (i + k) d (omega arith) (omega arith))) in
     upto standings_total (get_or xs i d) (get_or xs (i + k) d) (get_or xs (i + suc k) d) before last
 
 gt_then : (a b : Ordering) → is_gt (ordering_then a b) ≡ false → is_gt a ≡ false

@@ -25,8 +25,8 @@ one_rising (x ∷ xs) [] r s f g = absurd (f x (inl refl))
 one_rising (x ∷ xs) (y ∷ ys) r s f g =
     let same : y ≡ x = first_same (f x (inl refl)) (g y (inl refl)) in
     ap (λ z. z ∷ ys) same ∙ ap (λ zs. x ∷ zs) (one_rising xs ys r.1 s.1
-      (λ v h. elim (f v (inr h)) [ inl is ↦ absurd (let lt : x < v = each_listed (λ z. x < z) xs v r.0 h in omega arith) | inr later ↦ later ])
-      (λ v h. elim (g v (inr h)) [ inl is ↦ absurd (let lt : y < v = each_listed (λ z. y < z) ys v s.0 h in omega arith) | inr later ↦ later ]))
+    (λ v h. elim (f v (inr h)) [ inl is ↦ absurd (let lt : x < v = each_listed (λ z. x < z) xs v r.0 h in omega arith) | inr later ↦ later ])
+    (λ v h. elim (g v (inr h)) [ inl is ↦ absurd (let lt : y < v = each_listed (λ z. y < z) ys v s.0 h in omega arith) | inr later ↦ later ]))
   where
     first_same : (x ≡ y) ⊎ Listed ys x → (y ≡ x) ⊎ Listed xs y → y ≡ x
     first_same (inl is) other = sym is
@@ -48,13 +48,16 @@ record IsLeast (g : Graph) (n : List ℕ) (l : ℕ) : Type 0 where
 least_of : (g : Graph) (n : List ℕ) → IsGraph g → IsNetwork g n → (l : ℕ) × IsLeast g n l
 least_of g n is m = elim (least_below (Listed n) (PlaceBefore g) (listed_or_not n) (before_or_not g) (not_before_itself g) (before_then g) (elements g)) [
   | inl none ↦ absurd (none m.one (inside g n is m m.one ((m.class m.one).1 (here (IsLink g) m.one m.one refl))) ((m.class m.one).1 (here (IsLink g) m.one m.one refl)))
-  | inr found ↦ (found.0, record {
-    there = found.2;
-    least = λ v h. elim (before_or_not g found.0 v) [
-      | inl before ↦ inr before
-      | inr not ↦ inl (sym (one_place g found.0 v is found.1 (inside g n is m v h) not (found.3 v (inside g n is m v h) h)))
-    ];
-  })
+  | inr found ↦ (
+    found.0,
+    record {
+      there = found.2;
+      least = λ v h. elim (before_or_not g found.0 v) [
+        | inl before ↦ inr before
+        | inr not ↦ inl (sym (one_place g found.0 v is found.1 (inside g n is m v h) not (found.3 v (inside g n is m v h) h)))
+      ];
+    },
+  )
 ]
 
 -- the least of the first network is before all of the others
@@ -92,8 +95,8 @@ one_at_most g (n ∷ ns) (m ∷ ms) is en em on om f h =
           ]
     ] in
     ap (λ x. x ∷ ms) same ∙ ap (λ xs. n ∷ xs) (one_at_most g ns ms is en.1 em.1 on.1 om.1
-      (λ v there. elim (f v (inr there)) [ inl in_m ↦ absurd (apart_from_all g n ns v en.0 en.1 on.0 (subst (λ x. Listed x v) same in_m) there) | inr later ↦ later ])
-      (λ v there. elim (h v (inr there)) [ inl in_n ↦ absurd (apart_from_all g m ms v em.0 em.1 om.0 (subst (λ x. Listed x v) (sym same) in_n) there) | inr later ↦ later ]))
+    (λ v there. elim (f v (inr there)) [ inl in_m ↦ absurd (apart_from_all g n ns v en.0 en.1 on.0 (subst (λ x. Listed x v) same in_m) there) | inr later ↦ later ])
+    (λ v there. elim (h v (inr there)) [ inl in_n ↦ absurd (apart_from_all g m ms v em.0 em.1 om.0 (subst (λ x. Listed x v) (sym same) in_n) there) | inr later ↦ later ]))
 
 -- AT LEAST ONE
 
@@ -155,16 +158,21 @@ build g is (suc fuel) rest S e left = elim (least_below S (PlaceBefore g) left.d
         part = λ v h. left.part v h.0;
         linked = λ u v h r. (left.linked u v h.0 r, λ to. h.1 (then (IsLink g) l v u to (linked_back g u v r)));
         cover = λ v h. elim (less.1.others v (left.cover v h.0)) [ inl at ↦ absurd (h.1 (here (IsLink g) l v (sym at))) | inr there ↦ there ];
-      }) in
-      (class ∷ later.0, record {
-        each = (network, later.1.each);
-        whole = λ v h. elim (linked_or_not g is l v) [ inl r ↦ inl ((network.class v).1 r) | inr not ↦ inr (later.1.whole v (h, not)) ];
-        only = λ v h. elim h [ inl there ↦ left.linked l v found.2 ((network.class v).0 there) | inr after ↦ (later.1.only v after).0 ];
-        in_order = (each_after g class later.0 l ((network.class l).1 (here (IsLink g) l l refl)) (λ v h.
-            let s = later.1.only v h in
-            let low = part_within g v is (left.part v s.0) in
-            elim (before_or_not g l v) [ inl before ↦ before | inr not ↦ absurd (s.1 (here (IsLink g) l v (one_place g l v is found.1 low not (found.3 v low s.0)))) ]), later.1.in_order);
-      })
+      }) in (
+        class ∷ later.0,
+        record {
+          each = (network, later.1.each);
+          whole = λ v h. elim (linked_or_not g is l v) [ inl r ↦ inl ((network.class v).1 r) | inr not ↦ inr (later.1.whole v (h, not)) ];
+          only = λ v h. elim h [ inl there ↦ left.linked l v found.2 ((network.class v).0 there) | inr after ↦ (later.1.only v after).0 ];
+          in_order = (
+            each_after g class later.0 l ((network.class l).1 (here (IsLink g) l l refl)) (λ v h.
+                let s = later.1.only v h in
+                let low = part_within g v is (left.part v s.0) in
+                elim (before_or_not g l v) [ inl before ↦ before | inr not ↦ absurd (s.1 (here (IsLink g) l v (one_place g l v is found.1 low not (found.3 v low s.0)))) ]),
+            later.1.in_order,
+          );
+        },
+      )
 ]
 
 in_part : (g : Graph) (ns : List (List ℕ)) (v : ℕ) → Each (IsNetwork g) ns → IsInOne ns v → TakesPart g v
@@ -188,6 +196,9 @@ have_one_list g is =
       part = λ v h. h;
       linked = λ u v h r. linked_part g u v h r;
       cover = λ v h. all_below (elements g) v (part_within g v is h);
-    }) in
-    (built.0, record { each = built.1.each; whole = built.1.whole; in_order = built.1.in_order }, λ others are. one_at_most g built.0 others is built.1.each are.each built.1.in_order are.in_order
-      (λ v h. are.whole v (in_part g built.0 v built.1.each h)) (λ v h. built.1.whole v (in_part g others v are.each h)))
+    }) in (
+      built.0,
+      record { each = built.1.each; whole = built.1.whole; in_order = built.1.in_order },
+      λ others are. one_at_most g built.0 others is built.1.each are.each built.1.in_order are.in_order
+          (λ v h. are.whole v (in_part g built.0 v built.1.each h)) (λ v h. built.1.whole v (in_part g others v are.each h)),
+    )

@@ -92,13 +92,16 @@ next_or_all g part done is p = elim (least_below (Left part done) (Before g) (le
         ];
       } in
       elim (least_below (IsReady g part done) (λ u v. KeyAtMost g v u → ⊥) (ready_or_not g part done is) (λ u v. not_so (at_most_or_not g v u)) (λ u h. h (at_most_itself g u))
-          (λ u v w h k m. h (at_most_then g v w u (at_most_back g w v k) m)) (elements g)) [
-            | inl none ↦ absurd (none low.0 low.1 ready)
-            | inr found ↦ inr (found.0, record {
-              ready = found.2;
-              least = λ v r. elim (at_most_or_not g found.0 v) [ inl most ↦ most | inr not ↦ absurd (found.3 v (p v r.element) r not) ];
-            })
-          ]
+      (λ u v w h k m. h (at_most_then g v w u (at_most_back g w v k) m)) (elements g)) [
+        | inl none ↦ absurd (none low.0 low.1 ready)
+        | inr found ↦ inr (
+          found.0,
+          record {
+            ready = found.2;
+            least = λ v r. elim (at_most_or_not g found.0 v) [ inl most ↦ most | inr not ↦ absurd (found.3 v (p v r.element) r not) ];
+          },
+        )
+      ]
 ]
 
 -- AT LEAST ONE

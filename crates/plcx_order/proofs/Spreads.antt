@@ -71,9 +71,9 @@ pub less_unseen : (n : ℕ) (number todo : List ℕ) (v c : ℕ) → v < n → n
 less_unseen n number todo v c h len pos e =
     let new = set number v c in
     let fewer = less_count n (λ x. nat_eq (slice_index number x) 0) (λ x. nat_eq (slice_index new x) 0) v h
-        (eq_true (slice_index number v) 0 e)
-        (eq_false (slice_index new v) 0 (λ z. omega (arith, get_or-set_same number v c 0 (omega (arith, len)))))
-        (λ x hx other. ap (λ k. nat_eq k 0) (sym (get_or-set_other number v x c 0 other))) in
+    (eq_true (slice_index number v) 0 e)
+    (eq_false (slice_index new v) 0 (λ z. omega (arith, get_or-set_same number v c 0 (omega (arith, len)))))
+    (λ x hx other. ap (λ k. nat_eq k 0) (sym (get_or-set_other number v x c 0 other))) in
     omega (arith, fewer, length_push todo v)
 
 -- ALL NEIGHBOURS

@@ -106,12 +106,7 @@ fn offer(
 }
 
 /// The elements of the network that wait for nothing.
-fn first(
-    alloc: Global,
-    wires: &Wires,
-    network: &[u32],
-    waits: &Waits,
-) -> Result<Ready, NoMemory>
+fn first(alloc: Global, wires: &Wires, network: &[u32], waits: &Waits) -> Result<Ready, NoMemory>
     requires network { IsNetwork (graph_of wires.now) network.now }
     requires counts { length waits.now.count.items ≡ elements (graph_of wires.now) }
     ensures once { IfOk result (λ ready. (v : ℕ) → Listed network.now v → entries_of ready v ≡ one (slice_index waits.now.count.items v) 0) }

@@ -52,12 +52,7 @@ fn marks<L: Ledger>(
     let mut marks = Vec::new(alloc);
     for i in 0..wires.connections() as usize {
         let wire = wires.look(i as u64, steps);
-        marks.push(is_feedback(
-            wires,
-            places,
-            wire.from.element,
-            wire.to.element,
-        ))?;
+        marks.push(is_feedback(wires, places, wire.from.element, wire.to.element))?;
     }
     Ok(marks)
 }

@@ -2,7 +2,6 @@
 #![tactic(auto)]
 
 pub mod build;
-
 #[cfg(test)]
 mod plain;
 #[cfg(test)]

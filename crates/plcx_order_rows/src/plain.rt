@@ -133,12 +133,7 @@ impl Tables {
     }
 
     /// The order of a network: each time the least of all that are ready.
-    pub fn order(
-        &self,
-        alloc: Global,
-        network: &[u32],
-        marks: &[bool],
-    ) -> Result<Vec<u32>, Fail> {
+    pub fn order(&self, alloc: Global, network: &[u32], marks: &[bool]) -> Result<Vec<u32>, Fail> {
         let mut inside = vec![in alloc; false; self.count()]?;
         for v in network {
             set(&mut inside, *v as usize);

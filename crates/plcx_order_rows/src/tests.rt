@@ -127,7 +127,10 @@ fn a_latch_and_a_counter(rt: HostRuntime) -> Result<(), Fail> {
     let latch = tables(alloc, plain_keys(alloc, 5)?, &[], &ends)?;
     let latch_wires = wires(alloc, &latch)?.ok_or("no graph")?;
     let marks = feedback_uncounted(alloc, &latch_wires)?;
-    assert_eq!(rt; marks.as_slice(), [false, true, false, false, false].as_slice());
+    assert_eq!(rt;
+        marks.as_slice(),
+        [false, true, false, false, false].as_slice()
+    );
     let networks = networks_uncounted(alloc, &latch_wires)?;
     let orders = orders_uncounted(alloc, &latch_wires, &networks, &marks)?;
     assert_eq!(rt; orders.len(), 1);
@@ -176,7 +179,11 @@ fn drawn(alloc: Global, seed: u64, count: u64, wires: u64) -> Result<Tables, Fai
     let mut parts = Vec::new(alloc);
     for v in 0..count {
         seed = next(seed);
-        let order = if below(seed, 3) == 0 { Some(below(seed, 7).wrapping_add(1)) } else { None };
+        let order = if below(seed, 3) == 0 {
+            Some(below(seed, 7).wrapping_add(1))
+        } else {
+            None
+        };
         seed = next(seed);
         let y = i64::try_from(below(seed, 3))?;
         seed = next(seed);

@@ -1,8 +1,8 @@
-use Rattle.std.proofs.Common.{◌≡◌, ◌<◌, ◌≤◌, ◌+◌, ◌^◌, ◌∷◌, ◌++◌, length, drop, get_or, sym, ◌∙◌, ap, subst, arith}
+use Rattle.std.proofs.Common.{◌≡◌, ◌+◌, ◌∷◌, ◌++◌, length, drop, sym, ◌∙◌, ap}
 use Rattle.std.proofs.lemmas.List.{drop_more}
 use Rattle.plcx_model.specs.declared.body.BodyElement.{BodyElement}
 use Rattle.plcx_model.specs.Numbering.{pins_of, wires_at_pins, wires_from}
-use Rattle.plcx_model.proofs.BodyGraphs.{each_nth, wires_more, pins_more}
+use Rattle.plcx_model.proofs.BodyGraphs.{wires_more, pins_more}
 use Rattle.plcx_model.proofs.numbering.wires_of.Goals as goal
 
 pub loop-e-preserved : goal.loop-e-preserved

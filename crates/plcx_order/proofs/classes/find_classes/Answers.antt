@@ -19,7 +19,7 @@ visit-requires-clause-least g c = λ v takes unseen.
     let low : k < length xs = omega (arith, c.loop-k-test.true, c.len-k-end.ensures, c.in_ok-standings.standings.ok.0) in
     let read : c.index.result.now ≡ get_or xs k none = get_or_read xs k c.index.result.now low c.index.ensures none in
     let least = root_is_least graph xs none k v c.args.wires.now.graph c.in_ok-standings.ensures.all c.in_ok-standings.ensures.sorted low (part_within graph v c.args.wires.now.graph takes)
-        (λ j lt is. let seen = c.loop-k.invariant.seen j lt (subst (TakesPart graph) is takes) in omega (arith, ap (slice_index c.loop-k.classes.number.items) is)) in
+    (λ j lt is. let seen = c.loop-k.invariant.seen j lt (subst (TakesPart graph) is takes) in omega (arith, ap (slice_index c.loop-k.classes.number.items) is)) in
     subst (λ (s : Standing). (v ≡ s.element) ⊎ PlaceBefore graph s.element v) (sym read) least
 
 pub visit-requires-clause-element : goal.visit-requires-clause-element

@@ -1,7 +1,7 @@
-use Rattle.std.proofs.Common.{◌≡◌, map, sym, ◌∙◌, ap, subst}
+use Rattle.std.proofs.Common.{map, sym, ◌∙◌, ap, subst}
 use Rattle.plcx_model.specs.declared.body.BodyElement.{BodyElement}
 use Rattle.plcx_model.specs.Graph.{IsGraph}
-use Rattle.plcx_model.specs.Numbering.{key_of, kind_takes_part, wires_from, body_graph}
+use Rattle.plcx_model.specs.Numbering.{key_of, kind_takes_part, wires_from}
 use Rattle.plcx_model.proofs.BodyGraphs.{same_graph, is_graph}
 use Rattle.plcx_model.proofs.wires.Wires.of.Goals as goal
 
