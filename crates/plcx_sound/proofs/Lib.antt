@@ -1,0 +1,14 @@
+mod Lists
+mod Distinct
+mod Formed
+mod Keys
+mod Values
+mod Variables
+mod Chains
+mod Sizes
+mod Settled
+mod Walked
+mod Ranks
+mod Interfaces
+mod Bodies
+mod Files
