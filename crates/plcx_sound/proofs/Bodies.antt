@@ -1,17 +1,16 @@
 -- The body of a POU that is in form.
-use Rattle.std.proofs.Common.{◌≡◌, ℕ, zero, suc, ◌+◌, ◌^◌, ◌≤◌, ◌<◌, nat_lt, Bool, true, false, ◌&&◌, ◌||◌, not, cond, List, [], ◌∷◌, ◌++◌, length, map, filter_map, Option, Some, None, option_map, option_and_then, codes, refl, sym, ap, subst, ◌∙◌, arith}
-use Rattle.std.specs.List.{list_any, list_all, find, flat_map, sum_by}
+use Rattle.std.proofs.Common.{◌≡◌, ℕ, suc, ◌+◌, ◌^◌, ◌≤◌, ◌<◌, nat_lt, Bool, true, false, ◌&&◌, ◌||◌, cond, List, [], ◌∷◌, length, map, Option, Some, None, option_map, option_and_then, codes, refl, sym, ap, subst, ◌∙◌, arith}
+use Rattle.std.specs.List.{list_all, flat_map, sum_by}
 use Rattle.std.specs.Str.{bytes_eq}
 use Rattle.std.proofs.lemmas.Bool.Decides.{nat_tests}
 use Rattle.std.proofs.lemmas.List.{length-append}
-use Rattle.std.proofs.lemmas.List.Sums.{sum_by-cons, sum_by-append}
+use Rattle.std.proofs.lemmas.List.Sums.{sum_by-append}
 use Rattle.std.proofs.lemmas.Slice.Eq.{bytes_eq-Decides}
 use Rattle.plcx_model.specs.Lists.{Each}
-use Rattle.plcx_types.specs.Limits.{max_elements, max_connections, max_pin_connections, max_pins}
+use Rattle.plcx_types.specs.Limits.{max_pin_connections, max_pins}
 use Rattle.plcx_model.specs.Sound.{connections_of, connections, PinsAreFew, BodyIsSound}
 use Rattle.plcx_model.specs.declared.body.Connection as model
 use Rattle.plcx_model.specs.declared.body.PinIn.{PinIn}
-use Rattle.plcx_model.specs.declared.body.PinOut.{PinOut}
 use Rattle.plcx_model.specs.declared.body.Kind.{Kind}
 use Rattle.plcx_model.specs.declared.body.Kind.TheVariants as kind
 use Rattle.plcx_model.specs.declared.body.BodyElement.{BodyElement}
@@ -22,7 +21,7 @@ use Rattle.plcx_xml.specs.declared.tree.Node.TheOpen.{Node-F}
 use Rattle.plcx_xml.specs.declared.tree.Element.{Element}
 use Rattle.plcx_table.specs.declared.limits.Counts.{Counts}
 use Rattle.plcx_table.specs.declared.row.Row.{Row}
-use Rattle.plcx_table.specs.declared.row.Row.TheVariants.{Project, Types, DataTypes, Pous, Program, FunctionBlock, Function, Contents, ProgramInterface, BlockInterface, VariableList, OutsideList, Variable, OneType, Derived, InitialValue, SimpleValue, Body, Diagram, Comment, Vendor, Block, InputPins, InOutPins, OutputPins, InputPin, InOutPin, OutputPin, PointIn, PointOut, RailPoint, Connection, RailConnection, InVariable, OutVariable, Contact, Coil, Connector, Continuation, Label, Jump, Return, LeftRail, RightRail, Position, TextAlone, Bare}
+use Rattle.plcx_table.specs.declared.row.Row.TheVariants.{Body, Diagram, Block, InputPins, InOutPins, InputPin, InOutPin, PointIn, RailPoint, Connection, RailConnection, InVariable, OutVariable, Contact, Coil, Connector, Continuation, Label, Jump, Return, LeftRail, RightRail}
 use Rattle.plcx_table.specs.declared.row.Fate.{Fate}
 use Rattle.plcx_table.specs.declared.row.Fate.TheVariants.{Read, Refused, Skipped, Misplaced, Doubled}
 use Rattle.plcx_table.specs.declared.row.Taken.{Taken}
@@ -34,7 +33,7 @@ use Rattle.plcx_table.specs.Walk.{fits, child_for, fate_for, fate_of, is_aside, 
 use Rattle.plcx_draft.specs.BodyIn.{connection_in, input_of, rail_point, rail_input, input_pin, block_in, kind_in, element_as, element_in, body_of, diagram_in, body_or, body_in}
 use Rattle.plcx_draft.specs.Parts.{parts_of, parts_in, named, first_child, first_part}
 use Rattle.plcx_sound.proofs.Variables.{and_true}
-use Rattle.plcx_sound.proofs.Walked.{Good, good_here, if_some, option_weight, weigh, weight_at, sum_parts, children_light, parts_hold, parts_light, parts_counted, fate_is, IsTold, told_fate, told_good, child_holds, child_light, count, first_is, first_at_most, bit}
+use Rattle.plcx_sound.proofs.Walked.{Good, if_some, option_weight, weigh, weight_at, sum_parts, children_light, parts_hold, parts_light, parts_counted, fate_is, IsTold, told_fate, told_good, child_holds, child_light, count, first_is, first_at_most}
 use Rattle.plcx_sound.proofs.Sizes.{pins_are}
 use Rattle.plcx_sound.proofs.Ranks.{rank, found_passes, is_element, few_elements, is_connection, few_connections, is_pin_connection, few_at_pin, is_pin, few_pins}
 
@@ -101,14 +100,22 @@ unfolding is_aside child_for
 inputs_are = record {
   pins = record { text = refl; aside = refl; told = λ e is. rw is refl };
   point = record { text = refl; aside = refl; told = λ e is. rw is refl };
-  counts = refl; deep = refl; uncounted = refl; anew = λ c. refl }
+  counts = refl;
+  deep = refl;
+  uncounted = refl;
+  anew = λ c. refl;
+}
 
 in_outs_are : ArePins InOutPins InOutPin
 unfolding is_aside child_for
 in_outs_are = record {
   pins = record { text = refl; aside = refl; told = λ e is. rw is refl };
   point = record { text = refl; aside = refl; told = λ e is. rw is refl };
-  counts = refl; deep = refl; uncounted = refl; anew = λ c. refl }
+  counts = refl;
+  deep = refl;
+  uncounted = refl;
+  anew = λ c. refl;
+}
 
 pin_read : (e : Element) (p : PinIn) → input_pin e ≡ Some p → (name_of e ≡ codes "variable") × (p.input ≡ input_of e)
 unfolding input_pin
@@ -125,17 +132,17 @@ module _ (r pin : Row) (are : ArePins r pin) where
   pins_at : (n : ℕ) (e : Element) → Good (items (suc (suc (suc (suc n)))) (Read r) e) → Each (λ (p : PinIn). length p.input ≤ max_pin_connections) (parts_of input_pin e)
   pins_at n e h =
       parts_hold (suc (suc (suc n))) r input_pin (λ (p : PinIn). length p.input ≤ max_pin_connections)
-        (λ c a t at g.
-          let few = input_few pin are.point n c (told_good r (codes "variable") (Read pin) are.pins (suc (suc n)) t c (pin_read c a at).0 g) in
-          omega (arith, few, ap (λ (i : List model.Connection). length i) (pin_read c a at).1)) e h
+      (λ c a t at g.
+      let few = input_few pin are.point n c (told_good r (codes "variable") (Read pin) are.pins (suc (suc n)) t c (pin_read c a at).0 g) in
+      omega (arith, few, ap (λ (i : List model.Connection). length i) (pin_read c a at).1)) e h
 
   pins_counted : (n : ℕ) (e : Element) → Good (items (suc (suc (suc (suc n)))) (Read r) e) → sum_by pin_of (parts_of input_pin e) ≤ count is_connection (items (suc (suc (suc (suc n)))) (Read r) e)
   pins_counted n e h =
       parts_light input_pin pin_of (suc (suc (suc n))) r is_connection
-        (λ c a t at g.
-          let light = input_counted pin are.point n c (told_good r (codes "variable") (Read pin) are.pins (suc (suc n)) t c (pin_read c a at).0 g) in
-          let fate = told_fate r (codes "variable") (Read pin) are.pins (suc (suc n)) t c (pin_read c a at).0 g in
-          omega (arith, light, ap (λ (i : List model.Connection). length i) (pin_read c a at).1, ap (λ f. count is_connection (items (suc (suc (suc n))) f c)) fate)) e h
+      (λ c a t at g.
+      let light = input_counted pin are.point n c (told_good r (codes "variable") (Read pin) are.pins (suc (suc n)) t c (pin_read c a at).0 g) in
+      let fate = told_fate r (codes "variable") (Read pin) are.pins (suc (suc n)) t c (pin_read c a at).0 g in
+      omega (arith, light, ap (λ (i : List model.Connection). length i) (pin_read c a at).1, ap (λ f. count is_connection (items (suc (suc (suc n))) f c)) fate)) e h
 
 -- two children of different names
 two_names : (names : (List ℕ) × (List ℕ)) (e : Element) → bytes_eq names.0 names.1 ≡ false → bytes_eq (name_of e) names.0 ≡ true → bytes_eq (name_of e) names.1 ≡ false
@@ -201,8 +208,15 @@ in_outs e = parts_in input_pin (first_child (codes "inOutVariables") e)
 block_counted : (n : ℕ) (e : Element) → Good (items (suc (suc (suc (suc (suc n))))) (Read Block) e) → sum_by pin_of (inputs e) + sum_by pin_of (in_outs e) ≤ count is_connection (items (suc (suc (suc (suc (suc n))))) (Read Block) e)
 block_counted n e h =
     let all = children_light (suc (suc (suc (suc n)))) Block is_connection both_weights (λ c t g. both_light n c t (bytes_eq (name_of c) (codes "inputVariables")) (bytes_eq (name_of c) (codes "inOutVariables")) refl refl g) e h in
-    omega (arith, all, weigh_sum (weight_named pins_weight (codes "inputVariables")) (weight_named pins_weight (codes "inOutVariables")) (children_of e), first_weight (codes "inputVariables") e, first_weight (codes "inOutVariables") e,
-      pins_of (first_child (codes "inputVariables") e), pins_of (first_child (codes "inOutVariables") e))
+    omega (
+      arith,
+      all,
+      weigh_sum (weight_named pins_weight (codes "inputVariables")) (weight_named pins_weight (codes "inOutVariables")) (children_of e),
+      first_weight (codes "inputVariables") e,
+      first_weight (codes "inOutVariables") e,
+      pins_of (first_child (codes "inputVariables") e),
+      pins_of (first_child (codes "inOutVariables") e),
+    )
 
 -- the lists of pins of a block
 record PinsHold (ps : List PinIn) : Type 0 where
@@ -299,7 +313,8 @@ kind_holds n Block e k is h =
     subst (KindHolds n Block e) (some_is is) (record {
       counts = refl;
       connections = omega (arith, block_counted n e h, pins_are (inputs e), pins_are (in_outs e), sum_by-append pin_length (map (λ (p : PinIn). p.input) (inputs e)) (map (λ (p : PinIn). p.input) (in_outs e)));
-      pins = (ins.few, outs.few, ins.each, outs.each) })
+      pins = (ins.few, outs.few, ins.each, outs.each);
+    })
 kind_holds n OutVariable e k is h = subst (KindHolds n OutVariable e) (some_is is) (record { counts = refl; connections = one_pin OutVariable out_point n e h; pins = (one_few OutVariable out_point n e h) })
 kind_holds n Contact e k is h = subst (KindHolds n Contact e) (some_is is) (record { counts = refl; connections = one_pin Contact contact_point n e h; pins = (one_few Contact contact_point n e h) })
 kind_holds n Coil e k is h = subst (KindHolds n Coil e) (some_is is) (record { counts = refl; connections = one_pin Coil coil_point n e h; pins = (one_few Coil coil_point n e h) })
@@ -355,7 +370,7 @@ number_small : (text : List ℕ) → or_zero (number_of text) < 2 ^ 64
 unfolding number_of
 number_small text =
     small_number text (nat_lt 0 (length text) && list_all is_digit text && nat_lt (digits_value text) (2 ^ 64)) (λ h.
-      let less = (and_true (nat_lt 0 (length text) && list_all is_digit text) (nat_lt (digits_value text) (2 ^ 64)) h).1 in below_limit (digits_value text) less)
+    let less = (and_true (nat_lt 0 (length text) && list_all is_digit text) (nat_lt (digits_value text) (2 ^ 64)) h).1 in below_limit (digits_value text) less)
   where
     below_limit : (n : ℕ) → nat_lt n (2 ^ 64) ≡ true → n < 2 ^ 64
     below_limit n h = grind (arith, nat_tests)
@@ -382,7 +397,8 @@ placed n r e el (Some k) make keeps small is some h =
       small = subst (λ (b : BodyElement). b.local_id < 2 ^ 64) (some_is some) (small k);
       counts = holds.counts;
       connected = subst (λ (q : Kind). sum_by pin_length (connections_of q) ≤ count is_connection (items (five n) (Read r) e)) same holds.connections;
-      pins = subst PinsAreFew same holds.pins }
+      pins = subst PinsAreFew same holds.pins;
+    }
 
 element_holds : (n : ℕ) (e : Element) (el : BodyElement) (t : Taken) (o : Option Fate) → fate_for Diagram e ≡ o → element_as o e ≡ Some el → Good (items (five n) (fate_of Diagram t e) e) → ElementHolds n (fate_of Diagram t e) e el
 element_holds n e el t (Some (Read r)) told some h =
@@ -396,7 +412,8 @@ element_holds n e el t (Some (Skipped r)) told some h =
       small = subst (λ (b : BodyElement). b.local_id < 2 ^ 64) (some_is some) (id_small e);
       counts = skipped_child e (child_for Diagram e) r refl told;
       connected = subst (λ (q : Kind). sum_by pin_length (connections_of q) ≤ count is_connection (items (five n) (Skipped r) e)) same (omega arith);
-      pins = subst PinsAreFew same skipped_few })
+      pins = subst PinsAreFew same skipped_few;
+    })
 element_holds n e el t (Some (Refused r)) told some h = absurd (cc)
 element_holds n e el t (Some Misplaced) told some h = absurd (cc)
 element_holds n e el t (Some Doubled) told some h = absurd (cc)
@@ -450,4 +467,4 @@ body_sound r told n e h = go (first_child (codes "body") e) refl
     go None is = empty_sound
     go (Some b) is =
         inner b (first (parts_of diagram_in b)) refl
-          (child_holds r (codes "body") (Read Body) told (suc (five n)) (λ c. Each BodyIsSound (parts_of diagram_in c)) (λ c g. parts_hold (suc (five n)) Body diagram_in BodyIsSound (diagram_in_sound n) c g) e h b is)
+        (child_holds r (codes "body") (Read Body) told (suc (five n)) (λ c. Each BodyIsSound (parts_of diagram_in c)) (λ c g. parts_hold (suc (five n)) Body diagram_in BodyIsSound (diagram_in_sound n) c g) e h b is)

@@ -1,5 +1,5 @@
 -- Chains of instances in a project are those of its file.
-use Rattle.std.proofs.Common.{◌≡◌, ℕ, zero, suc, Bool, true, false, ◌||◌, List, [], ◌∷◌, ◌++◌, map, Option, Some, None, option_map, option_and_then, option_to_list, is_none, slice_get, refl, sym, ap, subst, ◌∙◌}
+use Rattle.std.proofs.Common.{◌≡◌, ℕ, zero, suc, Bool, false, List, [], ◌∷◌, map, Option, Some, None, option_map, option_and_then, option_to_list, is_none, slice_get, refl, sym, ap, subst, ◌∙◌}
 use Rattle.std.specs.List.{list_any, flat_map, fold}
 use Rattle.std.proofs.lemmas.List.Folds.{list_any-append}
 use Rattle.std.proofs.lemmas.Option.{slice_get-map}
@@ -18,7 +18,7 @@ use Rattle.plcx_profile.specs.declared.sizes.Content.{Content}
 use Rattle.plcx_profile.specs.ProjectIn.{type_or, variable_of, list_of, pou_of}
 use Rattle.plcx_profile.specs.Sizes.{place_in, block_of, with_variable, with_list, content_of, contents, holds_at, reaches}
 use Rattle.plcx_profile.specs.Types.{type_meant}
-use Rattle.plcx_sound.proofs.Lists.{all_joined, all_map, all_both, all_at, all_mapped, all_of}
+use Rattle.plcx_sound.proofs.Lists.{all_joined, all_both, all_at}
 use Rattle.plcx_sound.proofs.Variables.{or_false, known}
 
 module _ (pous : List DraftPou) where
@@ -104,11 +104,11 @@ module _ (pous : List DraftPou) where
     unfolding pou_of variable_of reaches
     nested n inner p all h =
         settled_all (λ (v : Variable). Nests settled_pous n v.ty) p.lists
-          (all_both (λ (l : DraftList). Each Known l.variables) (λ (l : DraftList). Each (Passes (Below n)) l.variables)
-            (λ (l : DraftList). Each (λ v. Nests settled_pous n (variable_of pous v).ty) l.variables)
-            (λ l k e. all_both Known (Passes (Below n)) (λ v. Nests settled_pous n (variable_of pous v).ty)
-              (λ v some none. inner (type_or (type_meant pous v.ty)) (known pous v.ty some) (as_some n (type_meant pous v.ty) some (ends n (type_meant pous v.ty) none))) l.variables k e)
-            p.lists all (none_of (Below n) p h))
+        (all_both (λ (l : DraftList). Each Known l.variables) (λ (l : DraftList). Each (Passes (Below n)) l.variables)
+        (λ (l : DraftList). Each (λ v. Nests settled_pous n (variable_of pous v).ty) l.variables)
+        (λ l k e. all_both Known (Passes (Below n)) (λ v. Nests settled_pous n (variable_of pous v).ty)
+        (λ v some none. inner (type_or (type_meant pous v.ty)) (known pous v.ty some) (as_some n (type_meant pous v.ty) some (ends n (type_meant pous v.ty) none))) l.variables k e)
+        p.lists all (none_of (Below n) p h))
 
     nests : (n : ℕ) (t : VarTy) → IsKnown settled_pous t → Ends n (Some t) → Nests settled_pous n t
     unfolding reaches

@@ -1,5 +1,5 @@
 -- What may stand once stands once.
-use Rattle.std.proofs.Common.{◌≡◌, ◌≢◌, ℕ, Bool, true, false, ◌||◌, List, [], ◌∷◌, Option, Some, None, refl, sym, filter_map, arith}
+use Rattle.std.proofs.Common.{◌≡◌, ◌≢◌, ℕ, Bool, true, false, ◌||◌, List, [], ◌∷◌, Option, Some, None, refl, filter_map, arith}
 use Rattle.std.specs.List.{All, AllPairs, cons_option}
 use Rattle.std.specs.Str.{bytes_eq}
 use Rattle.std.proofs.lemmas.List.Elements.{All-nil, All-cons}
@@ -9,7 +9,7 @@ use Rattle.plcx_model.specs.Lists.{Each}
 use Rattle.plcx_model.specs.Verdict.{Never}
 use Rattle.plcx_profile.specs.declared.doubling.Once.{Once}
 use Rattle.plcx_profile.specs.Declarations.{Declared}
-use Rattle.plcx_profile.specs.Names.{key_of, begins, is_key, has_stood, doubles, stands_again}
+use Rattle.plcx_profile.specs.Names.{key_of, begins, is_key, has_stood, doubles}
 
 abbrev pub Differ : List ℕ → List ℕ → Type 0
 Differ x y = x ≢ y

@@ -1,31 +1,27 @@
 -- A file in form: its draft is in form.
-use Rattle.std.proofs.Common.{◌≡◌, ℕ, zero, suc, ◌+◌, ◌≤◌, Bool, true, false, ◌&&◌, cond, List, [], ◌∷◌, length, Option, Some, None, option_map, option_and_then, codes, refl, sym, ap, subst, ◌∙◌, arith}
-use Rattle.std.specs.List.{find, sum_by}
+use Rattle.std.proofs.Common.{◌≡◌, ℕ, suc, ◌≤◌, Bool, true, false, cond, List, length, Option, Some, None, option_map, option_and_then, codes, refl, ap, subst, ◌∙◌, arith}
 use Rattle.std.specs.Str.{bytes_eq}
 use Rattle.plcx_model.specs.Lists.{Each}
 use Rattle.plcx_types.specs.Limits.{max_pous, max_variables}
 use Rattle.plcx_model.specs.declared.project.PouKind.{PouKind}
 use Rattle.plcx_model.specs.declared.project.PouKind.TheVariants as kind
-use Rattle.plcx_xml.specs.Look.{name_of, children_of}
+use Rattle.plcx_xml.specs.Look.{name_of}
 use Rattle.plcx_xml.specs.declared.tree.Element.{Element}
-use Rattle.plcx_table.specs.declared.limits.Counts.{Counts}
-use Rattle.plcx_table.specs.declared.row.Row.{Row}
 use Rattle.plcx_table.specs.declared.row.Row.TheVariants as row
 use Rattle.plcx_table.specs.declared.row.Fate.{Fate}
 use Rattle.plcx_table.specs.declared.row.Fate.TheVariants.{Read, Refused, Misplaced}
 use Rattle.plcx_table.specs.declared.row.Taken.{Taken}
 use Rattle.plcx_table.specs.Constructs.{attribute_of, or_empty}
 use Rattle.plcx_table.specs.Format.{root_fate, looked_at, FormatVerdict}
-use Rattle.plcx_table.specs.Limits.{no_counts, with_fate}
+use Rattle.plcx_table.specs.Limits.{no_counts}
 use Rattle.plcx_table.specs.Table.{Child}
 use Rattle.plcx_table.specs.Walk.{child_for, fate_for, fate_of, is_aside, items, first, values_of, is_value}
-use Rattle.plcx_draft.specs.BodyIn.{body_in}
-use Rattle.plcx_draft.specs.DraftIn.{kind_of, list_in, pou_in, draft_in}
+use Rattle.plcx_draft.specs.DraftIn.{kind_of, pou_in, draft_in}
 use Rattle.plcx_draft.specs.Parts.{parts_of, parts_in, first_child}
 use Rattle.plcx_draft.specs.declared.draft.DraftPou.{DraftPou}
-use Rattle.plcx_sound.proofs.Formed.{FormedPou, declared_variables}
-use Rattle.plcx_sound.proofs.Walked.{Good, GoodItem, FewFrom, good_here, good_file, GoodFile, IsGood, if_some, option_weight, parts_hold, parts_counted, fate_is, IsTold, child_holds, child_light, count}
-use Rattle.plcx_sound.proofs.Ranks.{rank, is_variable, few_variables, is_pou, few_pous}
+use Rattle.plcx_sound.proofs.Formed.{FormedPou}
+use Rattle.plcx_sound.proofs.Walked.{Good, good_here, good_file, GoodFile, IsGood, if_some, option_weight, parts_hold, parts_counted, fate_is, IsTold, child_holds, child_light, count}
+use Rattle.plcx_sound.proofs.Ranks.{is_variable, few_variables, is_pou, few_pous}
 use Rattle.plcx_sound.proofs.Interfaces.{pou_row, lists_formed, lists_counted}
 use Rattle.plcx_sound.proofs.Bodies.{five, body_sound}
 
@@ -118,10 +114,6 @@ pous_told = record { text = refl; aside = refl; told = λ e is. rw is refl }
 abbrev pous_in : Option Element → List DraftPou
 pous_in o = parts_in pou_in (option_and_then (first_child (codes "pous")) o)
 
-record DraftHolds (n : ℕ) (pous : List DraftPou) (counted : ℕ) : Type 0 where
-  formed : Each FormedPou pous
-  few : length pous ≤ counted
-
 types_formed : (n : ℕ) (e : Element) → Good (items (suc (nine n)) (Read row.Types) e) → Each FormedPou (pous_in (Some e))
 types_formed n e h = go (first_child (codes "pous") e) refl
   where
@@ -155,7 +147,7 @@ project_counted : (n : ℕ) (e : Element) → Good (items (suc (suc (suc (suc n)
 unfolding draft_in
 project_counted n e h =
     let light = child_light row.Project (codes "types") (Read row.Types) types_told (suc (suc n)) is_pou types_weight
-      (λ t g. child_light row.Types (codes "pous") (Read row.Pous) pous_told (suc n) is_pou pous_weight (pous_counted n) t g) e h in
+    (λ t g. child_light row.Types (codes "pous") (Read row.Pous) pous_told (suc n) is_pou pous_weight (pous_counted n) t g) e h in
     omega (arith, light, weight_in (first_child (codes "types") e))
 
 -- the root

@@ -1,7 +1,6 @@
 -- The lists of a POU that is in form.
-use Rattle.std.proofs.Common.{◌≡◌, ℕ, zero, suc, ◌+◌, ◌≤◌, Bool, true, false, ◌&&◌, ◌||◌, not, cond, nat_eq, List, [], ◌∷◌, length, map, Option, Some, None, option_map, option_and_then, codes, refl, sym, ap, subst, ◌∙◌, arith}
+use Rattle.std.proofs.Common.{◌≡◌, ℕ, suc, ◌≤◌, Bool, true, false, ◌&&◌, ◌||◌, not, cond, nat_eq, List, [], ◌∷◌, length, map, Option, Some, None, option_map, codes, refl, sym, ap, subst, ◌∙◌, arith}
 use Rattle.std.specs.Char.{to_ascii_lowercase, to_ascii_uppercase}
-use Rattle.std.specs.List.{list_any, sum_by}
 use Rattle.std.specs.Str.{bytes_eq}
 use Rattle.std.proofs.lemmas.Str.Ascii.{lowercase-uppercase, uppercase-uppercase}
 use Rattle.std.proofs.lemmas.Bool.Decides.{nat_tests}
@@ -9,26 +8,24 @@ use Rattle.std.proofs.lemmas.Slice.Eq.{bytes_eq-Decides}
 use Rattle.plcx_model.specs.Lists.{Each}
 use Rattle.plcx_types.proofs.Addresses.{form_is}
 use Rattle.plcx_types.specs.Address.{IsAddressForm}
-use Rattle.plcx_types.specs.Limits.{max_variables}
 use Rattle.plcx_types.specs.Name.{in_lower_case, in_upper_case}
-use Rattle.plcx_types.specs.ReadAddress.{is_address, is_address_form}
+use Rattle.plcx_types.specs.ReadAddress.{is_address}
 use Rattle.plcx_model.specs.Sound.{AddressSuits}
 use Rattle.plcx_model.specs.declared.project.PouKind.{PouKind}
 use Rattle.plcx_model.specs.declared.project.PouKind.TheVariants.{Program}
 use Rattle.plcx_model.specs.declared.project.PouKind.TheVariants as kind
 use Rattle.plcx_model.specs.declared.project.ListClass.{ListClass}
 use Rattle.plcx_model.specs.declared.project.ListClass.TheVariants.{Local, Input, Output, InOut}
-use Rattle.plcx_xml.specs.Look.{name_of, children_of}
+use Rattle.plcx_xml.specs.Look.{name_of}
 use Rattle.plcx_xml.specs.declared.tree.Element.{Element}
 use Rattle.plcx_table.specs.declared.row.Row.{Row}
 use Rattle.plcx_table.specs.declared.row.Row.TheVariants as row
-use Rattle.plcx_table.specs.declared.row.Fate.{Fate}
-use Rattle.plcx_table.specs.declared.row.Fate.TheVariants.{Read, Refused, Skipped}
+use Rattle.plcx_table.specs.declared.row.Fate.TheVariants.{Read, Refused}
 use Rattle.plcx_table.specs.declared.row.Taken.{Taken}
 use Rattle.plcx_table.specs.declared.row.Form.TheVariants as form
 use Rattle.plcx_table.specs.Constructs.{attribute_of, or_empty}
-use Rattle.plcx_table.specs.Rules.{has_form, at_most_one, is_bad, has_bad_field, is_bad_field}
-use Rattle.plcx_table.specs.Walk.{child_for, fate_for, fate_of, is_aside, items, first, values_of}
+use Rattle.plcx_table.specs.Rules.{has_form, at_most_one, is_bad, has_bad_field}
+use Rattle.plcx_table.specs.Walk.{child_for, fate_of, is_aside, items, first, values_of}
 use Rattle.plcx_draft.specs.BodyIn.{is_marked, nonempty}
 use Rattle.plcx_draft.specs.DraftIn.{variable_in, class_named, takes_marks, list_of, list_in}
 use Rattle.plcx_draft.specs.Parts.{parts_of, parts_in, first_child}
@@ -153,20 +150,20 @@ module _ (Q : List ℕ → ListClass → Type 0) where
   unfolding class_named
   by_class l i o io name class h =
       at_name name (codes "localVars") Local class _ (bytes_eq name (codes "localVars")) refl l
-        (λ h1. at_name name (codes "inputVars") Input class _ (bytes_eq name (codes "inputVars")) refl i
-          (λ h2. at_name name (codes "outputVars") Output class _ (bytes_eq name (codes "outputVars")) refl o
-            (λ h3. at_name name (codes "inOutVars") InOut class None (bytes_eq name (codes "inOutVars")) refl io (λ h4. absurd (let none : None ≡ Some class = h4 in cc)) h3) h2) h1) h
+      (λ h1. at_name name (codes "inputVars") Input class _ (bytes_eq name (codes "inputVars")) refl i
+      (λ h2. at_name name (codes "outputVars") Output class _ (bytes_eq name (codes "outputVars")) refl o
+      (λ h3. at_name name (codes "inOutVars") InOut class None (bytes_eq name (codes "inOutVars")) refl io (λ h4. absurd (let none : None ≡ Some class = h4 in cc)) h3) h2) h1) h
 
 list_told : (k : PouKind) (name : List ℕ) (class : ListClass) → class_named name ≡ Some class → IsTold (interface_row k) name (Read (list_row k class))
 unfolding is_aside child_for
 list_told Program name class h =
     by_class (λ (m : List ℕ) (c : ListClass). IsTold row.ProgramInterface m (Read (list_row Program c)))
-      (record { text = refl; aside = refl; told = λ e is. rw is refl }) (record { text = refl; aside = refl; told = λ e is. rw is refl })
-      (record { text = refl; aside = refl; told = λ e is. rw is refl }) (record { text = refl; aside = refl; told = λ e is. rw is refl }) name class h
+    (record { text = refl; aside = refl; told = λ e is. rw is refl }) (record { text = refl; aside = refl; told = λ e is. rw is refl })
+    (record { text = refl; aside = refl; told = λ e is. rw is refl }) (record { text = refl; aside = refl; told = λ e is. rw is refl }) name class h
 list_told kind.FunctionBlock name class h =
     by_class (λ (m : List ℕ) (c : ListClass). IsTold row.BlockInterface m (Read row.VariableList))
-      (record { text = refl; aside = refl; told = λ e is. rw is refl }) (record { text = refl; aside = refl; told = λ e is. rw is refl })
-      (record { text = refl; aside = refl; told = λ e is. rw is refl }) (record { text = refl; aside = refl; told = λ e is. rw is refl }) name class h
+    (record { text = refl; aside = refl; told = λ e is. rw is refl }) (record { text = refl; aside = refl; told = λ e is. rw is refl })
+    (record { text = refl; aside = refl; told = λ e is. rw is refl }) (record { text = refl; aside = refl; told = λ e is. rw is refl }) name class h
 
 abbrev size : DraftList → ℕ
 size l = length l.variables
@@ -192,8 +189,10 @@ list_holds Program n e InOut h =
         addresses = subst (Each HasAddress) (sym none) tt;
         marks = marks_apart InOut (is_marked (codes "constant") e) (is_marked (codes "retain") e);
         in_out_marks = in_out_unmarked InOut (is_marked (codes "constant") e) (is_marked (codes "retain") e);
-        in_outs = λ is program. none };
-      light = (let empty = ap (λ (vs : List DraftVariable). length vs) none in omega (arith, empty)) }
+        in_outs = λ is program. none;
+      };
+      light = (let empty = ap (λ (vs : List DraftVariable). length vs) none in omega (arith, empty));
+    }
 list_holds Program n e Local h = record { formed = listed Program n e Local (λ p c. absurd (cc)) h; light = list_light n e h }
 list_holds Program n e Input h = record { formed = listed Program n e Input (λ p c. absurd (cc)) h; light = list_light n e h }
 list_holds Program n e Output h = record { formed = listed Program n e Output (λ p c. absurd (cc)) h; light = list_light n e h }
@@ -238,7 +237,7 @@ lists_formed k n e h = go (first_child (codes "interface") e) refl
     go None is = tt
     go (Some interface) is =
         child_holds (pou_row k) (codes "interface") (Read (interface_row k)) (interface_told k) (suc (suc n)) (λ i. Each (FormedList k) (parts_of list_in i))
-          (λ i g. parts_hold (suc (suc n)) (interface_row k) list_in (FormedList k) (list_formed k n) i g) e h interface is
+        (λ i g. parts_hold (suc (suc n)) (interface_row k) list_in (FormedList k) (list_formed k n) i g) e h interface is
 
 parts_weight : (o : Option Element) → declared_variables (parts_in list_in o) ≡ option_weight (λ i. declared_variables (parts_of list_in i)) o
 parts_weight None = refl
@@ -247,5 +246,5 @@ parts_weight (Some e) = refl
 pub lists_counted : (k : PouKind) (n : ℕ) (e : Element) → Good (items (suc (suc (suc (suc n)))) (Read (pou_row k)) e) → declared_variables (parts_in list_in (first_child (codes "interface") e)) ≤ count is_variable (items (suc (suc (suc (suc n)))) (Read (pou_row k)) e)
 lists_counted k n e h =
     let light = child_light (pou_row k) (codes "interface") (Read (interface_row k)) (interface_told k) (suc (suc n)) is_variable (λ i. declared_variables (parts_of list_in i))
-      (λ i g. parts_light list_in size (suc (suc n)) (interface_row k) is_variable (list_counts k n) i g) e h in
+    (λ i g. parts_light list_in size (suc (suc n)) (interface_row k) is_variable (list_counts k n) i g) e h in
     omega (arith, light, parts_weight (first_child (codes "interface") e))

@@ -1,16 +1,13 @@
 -- What of a file's declarations may stand once is that of its project.
-use Rattle.std.proofs.Common.{◌≡◌, ℕ, Bool, true, false, List, [], ◌∷◌, ◌++◌, map, filter_map, Option, Some, None, refl, sym, ap, subst, ◌∙◌}
-use Rattle.std.specs.List.{flat_map, cons_option, AllPairs}
+use Rattle.std.proofs.Common.{◌≡◌, ℕ, true, List, [], ◌∷◌, ◌++◌, map, filter_map, Option, Some, None, refl, sym, ap, subst, ◌∙◌}
+use Rattle.std.specs.List.{flat_map, AllPairs}
 use Rattle.std.proofs.lemmas.List.Elements.{filter_map-append}
-use Rattle.std.proofs.lemmas.List.{map-append}
-use Rattle.plcx_model.specs.Lists.{Each}
 use Rattle.plcx_types.specs.Name.{in_lower_case}
 use Rattle.plcx_model.specs.Verdict.{Never}
 use Rattle.plcx_model.specs.Sound.{variables_of, addresses_of}
 use Rattle.plcx_model.specs.declared.project.Variable.{Variable}
 use Rattle.plcx_model.specs.declared.project.VarList.{VarList}
 use Rattle.plcx_model.specs.declared.project.Pou.{Pou}
-use Rattle.plcx_draft.specs.BodyIn.{nonempty}
 use Rattle.plcx_draft.specs.declared.draft.DraftVariable.{DraftVariable}
 use Rattle.plcx_draft.specs.declared.draft.DraftList.{DraftList}
 use Rattle.plcx_draft.specs.declared.draft.DraftPou.{DraftPou}
@@ -66,7 +63,7 @@ module _ (pous : List DraftPou) where
   pub distinct_variables : (before : List Declared) (p : DraftPou) → Never (λ b x. doubles VariableNames b x ≡ true) before (in_pou p) → AllPairs Differ (map name_key (variables_of (pou_of pous p)))
   distinct_variables before p never =
       subst (AllPairs Differ) (names_are p)
-        (distinct VariableNames (OfPou p ∷ before) (flat_map in_list p.lists) (flat_all (Goes VariableNames) in_list (λ l. map_all (Goes VariableNames) (λ (v : DraftVariable). OfVariable l v) (λ v. refl) l.variables) p.lists) never.1)
+      (distinct VariableNames (OfPou p ∷ before) (flat_map in_list p.lists) (flat_all (Goes VariableNames) in_list (λ l. map_all (Goes VariableNames) (λ (v : DraftVariable). OfVariable l v) (λ v. refl) l.variables) p.lists) never.1)
 
   -- the names of POUs
   abbrev pou_key : Pou → List ℕ

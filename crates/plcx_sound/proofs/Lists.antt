@@ -1,5 +1,5 @@
 -- Lists, and what no item of one breaks.
-use Rattle.std.proofs.Common.{◌≡◌, Bool, true, false, List, [], ◌∷◌, ◌++◌, map, refl, sym, subst, ℕ, zero, suc, Some, slice_get}
+use Rattle.std.proofs.Common.{◌≡◌, Bool, true, false, List, [], ◌∷◌, ◌++◌, map, refl, subst, ℕ, zero, suc, Some, slice_get}
 use Rattle.std.specs.List.{flat_map}
 use Rattle.plcx_model.specs.Lists.{Each}
 use Rattle.plcx_model.specs.Verdict.{Never}

@@ -1,6 +1,6 @@
 -- Elements lie below others by the table alone: what is counted in one element is counted nowhere above it.
-use Rattle.std.proofs.Common.{◌≡◌, ℕ, zero, suc, ◌+◌, ◌≤◌, ◌<◌, Bool, true, false, ◌&&◌, ◌||◌, cond, nat_lt, List, [], ◌∷◌, ◌++◌, Option, Some, None, option_map, refl, sym, ap, subst, ◌∙◌, arith}
-use Rattle.std.specs.List.{list_any, list_all, find}
+use Rattle.std.proofs.Common.{◌≡◌, ℕ, zero, suc, ◌+◌, ◌≤◌, ◌<◌, Bool, true, false, cond, nat_lt, List, [], ◌∷◌, Option, Some, None, refl, ap, subst, arith}
+use Rattle.std.specs.List.{list_all, find}
 use Rattle.std.proofs.lemmas.Bool.Decides.{nat_tests}
 use Rattle.plcx_model.specs.Lists.{Each}
 use Rattle.plcx_types.specs.Limits.{max_pous, max_variables, max_elements, max_connections, max_pin_connections, max_pins}
@@ -10,7 +10,7 @@ use Rattle.plcx_xml.specs.declared.tree.Node.TheOpen.{Node-F}
 use Rattle.plcx_xml.specs.declared.tree.Element.{Element}
 use Rattle.plcx_table.specs.declared.limits.Counts.{Counts}
 use Rattle.plcx_table.specs.declared.row.Row.{Row}
-use Rattle.plcx_table.specs.declared.row.Row.TheVariants.{Project, Types, DataTypes, Pous, Program, FunctionBlock, Function, Contents, ProgramInterface, BlockInterface, VariableList, OutsideList, Variable, OneType, Derived, InitialValue, SimpleValue, Body, Diagram, Comment, Vendor, Block, InputPins, InOutPins, OutputPins, InputPin, InOutPin, OutputPin, PointIn, PointOut, RailPoint, Connection, RailConnection, InVariable, OutVariable, Contact, Coil, Connector, Continuation, Label, Jump, Return, LeftRail, RightRail, Position, TextAlone, Bare}
+use Rattle.plcx_table.specs.declared.row.Row.TheVariants.{Project, Types, DataTypes, Pous, Program, FunctionBlock, Contents, ProgramInterface, BlockInterface, VariableList, OutsideList, Variable, OneType, InitialValue, Body, Diagram, Comment, Vendor, Block, InputPins, InOutPins, OutputPins, InputPin, InOutPin, OutputPin, PointIn, PointOut, RailPoint, Connection, RailConnection, InVariable, OutVariable, Contact, Coil, Connector, Continuation, Label, Jump, Return, LeftRail, RightRail, Bare}
 use Rattle.plcx_table.specs.declared.row.Often.{Often}
 use Rattle.plcx_table.specs.declared.row.Often.TheVariants.{Any, AtMostOnce, Once}
 use Rattle.plcx_table.specs.declared.row.Fate.{Fate}
@@ -19,9 +19,9 @@ use Rattle.plcx_table.specs.declared.row.Taken.{Taken}
 use Rattle.plcx_table.specs.Limits.{no_counts, with_fate, IsFew}
 use Rattle.plcx_table.specs.Table.{Child, children, holds_text}
 use Rattle.plcx_table.specs.Walk.{Item, fits, child_for, fate_of, other_fate, fate_as, fate_often, has_prefix, is_taken, is_aside, none_taken, taken_behind, at_node, items_below, below, items}
-use Rattle.plcx_sound.proofs.Lists.{all_joined, all_map}
+use Rattle.plcx_sound.proofs.Lists.{all_joined}
 use Rattle.plcx_sound.proofs.Variables.{and_true}
-use Rattle.plcx_sound.proofs.Walked.{Good, FewFrom, good_below, bit, count}
+use Rattle.plcx_sound.proofs.Walked.{Good, FewFrom, bit, count}
 
 -- how many levels there may be below an element
 abbrev pub rank : Row → ℕ
@@ -121,7 +121,7 @@ unfolding items_below
 nodes_lower k n row h inner t [] = tt
 nodes_lower k n row h inner t (node ∷ ns) =
     all_joined (Lower k) (at_node (items n) row t (out-Node node)) (items_below (items n) row (taken_behind row t (out-Node node)) ns)
-      (node_lower k n row h inner t (out-Node node)) (nodes_lower k n row h inner (taken_behind row t (out-Node node)) ns)
+    (node_lower k n row h inner t (out-Node node)) (nodes_lower k n row h inner (taken_behind row t (out-Node node)) ns)
 
 below_lower : (k n : ℕ) (fate : Fate) (e : Element) → is_lower k fate ≡ true → ((fate : Fate) (e : Element) → is_lower k fate ≡ true → Each (Lower k) (items n fate e)) → Each (Lower k) (below (items n) fate e)
 below_lower k n (Read row) e h inner = nodes_lower k n row (let less : rank row < k = grind (arith, nat_tests) in omega arith) inner none_taken (children_of e)

@@ -1,18 +1,14 @@
 -- A draft that is in form and breaks no rule on what it declares is settled as a sound project.
-use Rattle.std.proofs.Common.{◌≡◌, ℕ, suc, ◌+◌, ◌≤◌, Bool, true, false, ◌||◌, not, List, [], ◌∷◌, ◌++◌, length, map, Option, None, is_none, refl, sym, ap, subst, ◌∙◌, arith}
-use Rattle.std.specs.List.{flat_map, AllPairs, sum_by}
+use Rattle.std.proofs.Common.{◌≡◌, ◌+◌, ◌≤◌, true, false, not, List, [], ◌∷◌, length, map, None, is_none, refl, sym, ap, ◌∙◌, arith}
+use Rattle.std.specs.List.{flat_map}
 use Rattle.std.proofs.lemmas.List.{length-append, length-map}
 use Rattle.std.proofs.lemmas.List.Sums.{sum_by-cons}
 use Rattle.plcx_model.specs.Lists.{Each}
-use Rattle.plcx_types.specs.Limits.{max_pous, max_variables, max_instance_chain}
-use Rattle.plcx_model.specs.Verdict.{Never, Verdict, Kept, Next}
-use Rattle.plcx_model.specs.Sound.{Sound, PouIsSound, ListIsSound, VariableIsSound, variables_of}
+use Rattle.plcx_types.specs.Limits.{max_pous, max_instance_chain}
+use Rattle.plcx_model.specs.Verdict.{Never, Kept, Next}
+use Rattle.plcx_model.specs.Sound.{Sound, PouIsSound, ListIsSound, VariableIsSound}
 use Rattle.plcx_model.specs.declared.project.PouKind.{PouKind}
-use Rattle.plcx_model.specs.declared.project.PouKind.TheVariants.{Program}
-use Rattle.plcx_model.specs.declared.project.ListClass.TheVariants.{InOut}
-use Rattle.plcx_model.specs.declared.project.Variable.{Variable}
 use Rattle.plcx_model.specs.declared.project.VarList.{VarList}
-use Rattle.plcx_model.specs.declared.project.Pou.{Pou}
 use Rattle.plcx_draft.specs.declared.draft.DraftVariable.{DraftVariable}
 use Rattle.plcx_draft.specs.declared.draft.DraftList.{DraftList}
 use Rattle.plcx_draft.specs.declared.draft.DraftPou.{DraftPou}
@@ -23,7 +19,7 @@ use Rattle.plcx_profile.specs.Declarations.{Declared, OfPou, OfVariable, in_list
 use Rattle.plcx_profile.specs.Names.{is_bad_name, doubles}
 use Rattle.plcx_profile.specs.Types.{type_meant, may_hold, breaks_type, breaks_initial, is_bad_initial, breaks_in_out}
 use Rattle.plcx_profile.specs.Sizes.{breaks_chain, breaks_size}
-use Rattle.plcx_profile.specs.Judged.{breaks, BreaksIn, DeclarationVerdict}
+use Rattle.plcx_profile.specs.Judged.{breaks, DeclarationVerdict}
 use Rattle.plcx_profile.specs.ProjectIn.{variable_of, list_of, pou_of, settled}
 use Rattle.plcx_sound.proofs.Lists.{unbroken, all_flat, all_mapped, all_both, all_map, never_flat}
 use Rattle.plcx_sound.proofs.Formed.{HasAddress, FormedList, FormedPou, declared_variables}
@@ -66,7 +62,10 @@ judged draft (Next names (Next pou_names (Next variable_names (Next types (Next 
     let ics = all_both (λ x. I x × C x) S (λ x. I x × C x × S x) (λ x p q. (p.0, p.1, q)) xs ic s in
     record {
       keep = all_both (λ x. N x × T x) (λ x. I x × C x × S x) (Keeps pous) (λ x p q. record { name = p.0; type = p.1; initial = q.0; chain = q.1; size = q.2 }) xs nt ics;
-      pou_names = pou_names; variable_names = variable_names; addresses = addresses }
+      pou_names = pou_names;
+      variable_names = variable_names;
+      addresses = addresses;
+    }
   where
     same_type : (pous : List DraftPou) (b : List Declared) (x : Declared) → breaks_type pous b x ≡ breaks_type pous [] x
     same_type pous b (OfPou p) = refl
@@ -96,7 +95,8 @@ module _ (pous : List DraftPou) where
   keeps_pou p h = record {
     own = h.0;
     lists = all_map (λ (l : DraftList). Each (Keeps pous) (in_list l)) (λ (l : DraftList). Each (KeepsVariable l) l.variables)
-      (λ l k. all_mapped (Keeps pous) (λ (v : DraftVariable). OfVariable l v) l.variables k) p.lists (all_flat (Keeps pous) in_list p.lists h.1) }
+        (λ l k. all_mapped (Keeps pous) (λ (v : DraftVariable). OfVariable l v) l.variables k) p.lists (all_flat (Keeps pous) in_list p.lists h.1);
+  }
 
   type_known : (l : DraftList) (v : DraftVariable) → KeepsVariable l v → Known pous v
   type_known l v k = (or_false (is_none (type_meant pous v.ty)) (not (may_hold l v.ty)) k.type).0

@@ -1,13 +1,11 @@
 -- The leaves and parts of a project's POU are at most those that are counted in its file.
-use Rattle.std.proofs.Common.{◌≡◌, ℕ, zero, suc, ◌+◌, ◌^◌, ◌≤◌, ◌<◌, min, Bool, true, false, nat_lt, List, [], ◌∷◌, ◌++◌, length, map, Option, Some, None, option_map, option_and_then, option_to_list, is_none, slice_get, refl, sym, ap, subst, ◌∙◌, arith}
+use Rattle.std.proofs.Common.{◌≡◌, ℕ, zero, suc, ◌+◌, ◌^◌, ◌≤◌, min, false, nat_lt, List, [], ◌∷◌, ◌++◌, length, map, Option, Some, None, option_to_list, is_none, slice_get, refl, sym, ap, ◌∙◌, arith}
 use Rattle.std.specs.List.{flat_map, fold, sum_by}
-use Rattle.std.proofs.lemmas.Bool.Decides.{nat_tests}
-use Rattle.std.proofs.lemmas.List.Sums.{sum_by-cons, sum_by-append, sum-map}
+use Rattle.std.proofs.lemmas.List.Sums.{sum_by-cons, sum_by-append}
 use Rattle.std.proofs.lemmas.Option.{slice_get-map}
 use Rattle.plcx_model.specs.Lists.{Each}
 use Rattle.plcx_types.specs.Limits.{max_instance_chain, max_leaves, max_parts}
-use Rattle.plcx_std.specs.Pins.{pins}
-use Rattle.plcx_model.specs.Sound.{variables_of, connections_of, connections, count_at, type_leaves, list_leaves, leaves, type_parts, parts}
+use Rattle.plcx_model.specs.Sound.{connections_of, connections, count_at, type_leaves, list_leaves, leaves, type_parts, parts}
 use Rattle.plcx_model.specs.declared.body.Connection.{Connection}
 use Rattle.plcx_model.specs.declared.body.PinIn.{PinIn}
 use Rattle.plcx_model.specs.declared.body.Kind.{Kind}

@@ -1,5 +1,5 @@
 -- What a declaration that breaks no rule gives to its variable.
-use Rattle.std.proofs.Common.{◌≡◌, ◌≢◌, ℕ, ◌+◌, ◌^◌, ◌≤◌, Bool, true, false, ◌&&◌, ◌||◌, not, cond, nat_lt, List, [], ◌∷◌, length, map, Option, Some, None, option_map, is_none, is_some, slice_get, refl, sym, ap, subst, ◌∙◌, arith, suc, zero, ◌⊎◌, inl, inr}
+use Rattle.std.proofs.Common.{◌≡◌, ℕ, ◌+◌, ◌^◌, ◌≤◌, Bool, true, false, ◌&&◌, ◌||◌, not, cond, nat_lt, List, [], ◌∷◌, length, map, Option, Some, None, option_map, is_none, is_some, slice_get, refl, ap, subst, ◌∙◌, arith, suc}
 use Rattle.std.specs.List.{position_from}
 use Rattle.std.specs.Str.{bytes_eq}
 use Rattle.std.proofs.lemmas.Bool.Decides.{nat_tests}
@@ -7,7 +7,6 @@ use Rattle.std.proofs.lemmas.Option.{slice_get-map}
 use Rattle.plcx_types.specs.Name.{is_identifier, in_lower_case}
 use Rattle.plcx_types.specs.Limits.{max_declared_name_bytes}
 use Rattle.plcx_types.specs.Reserved.{is_reserved}
-use Rattle.plcx_types.specs.Range.{InRange}
 use Rattle.plcx_types.specs.Value.{Value}
 use Rattle.plcx_types.specs.ReadLiteral.{value_of}
 use Rattle.plcx_types.specs.declared.ty.Ty.{Ty}
@@ -17,11 +16,9 @@ use Rattle.plcx_model.specs.Sound.{IsDeclarable, IsKnown, MayHold, InitialSuits}
 use Rattle.plcx_model.specs.declared.project.PouKind.{PouKind}
 use Rattle.plcx_model.specs.declared.project.PouKind.TheVariants.{Program, FunctionBlock}
 use Rattle.plcx_model.specs.declared.project.ListClass.{ListClass}
-use Rattle.plcx_model.specs.declared.project.ListClass.TheVariants.{Local, Input, Output, InOut}
+use Rattle.plcx_model.specs.declared.project.ListClass.TheVariants.{Local, InOut}
 use Rattle.plcx_model.specs.declared.project.VarTy.{VarTy}
 use Rattle.plcx_model.specs.declared.project.VarTy.TheVariants as var
-use Rattle.plcx_model.specs.declared.project.VarList.{VarList}
-use Rattle.plcx_model.specs.declared.project.Pou.{Pou}
 use Rattle.plcx_draft.specs.BodyIn.{nonempty}
 use Rattle.plcx_draft.specs.declared.draft.DraftType.{DraftType}
 use Rattle.plcx_draft.specs.declared.draft.DraftType.TheVariants.{Plain, Derived}
@@ -30,7 +27,7 @@ use Rattle.plcx_draft.specs.declared.draft.DraftList.{DraftList}
 use Rattle.plcx_draft.specs.declared.draft.DraftPou.{DraftPou}
 use Rattle.plcx_profile.specs.Blocks.{is_block, is_block_named, block_named}
 use Rattle.plcx_profile.specs.Names.{is_bad_name}
-use Rattle.plcx_profile.specs.Types.{type_meant, standard_or, block_at, is_plain, is_local, is_in_out, may_hold, breaks_in_out}
+use Rattle.plcx_profile.specs.Types.{type_meant, standard_or, block_at, is_local, is_in_out, may_hold, breaks_in_out}
 use Rattle.plcx_profile.specs.ProjectIn.{type_or, initial_as, list_of, pou_of}
 use Rattle.plcx_sound.proofs.Values.{value_within}
 

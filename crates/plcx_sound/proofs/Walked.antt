@@ -1,12 +1,12 @@
 -- What is looked at in a file that is in form, and what is counted in it.
-use Rattle.std.proofs.Common.{◌≡◌, ℕ, zero, suc, ◌+◌, ◌≤◌, Bool, true, false, ◌&&◌, ◌||◌, cond, nat_lt, List, [], ◌∷◌, ◌++◌, length, Option, Some, None, option_map, filter_map, codes, refl, sym, ap, subst, ◌∙◌, arith}
-use Rattle.std.specs.List.{list_any, list_all, find, sum_by, cons_option}
+use Rattle.std.proofs.Common.{◌≡◌, ℕ, suc, ◌+◌, ◌≤◌, Bool, true, false, ◌||◌, cond, nat_lt, List, [], ◌∷◌, ◌++◌, length, Option, Some, None, option_map, filter_map, codes, refl, sym, ap, subst, ◌∙◌, arith}
+use Rattle.std.specs.List.{sum_by, cons_option}
 use Rattle.std.specs.Str.{bytes_eq}
 use Rattle.std.proofs.lemmas.List.Sums.{sum_by-cons}
 use Rattle.std.proofs.lemmas.Slice.Eq.{bytes_eq-Decides}
 use Rattle.plcx_model.specs.Lists.{Each}
 use Rattle.plcx_types.specs.Limits.{max_pous, max_variables, max_elements, max_connections, max_pin_connections, max_pins}
-use Rattle.plcx_model.specs.Verdict.{Never, Verdict, Kept, Next}
+use Rattle.plcx_model.specs.Verdict.{Never, Kept, Next}
 use Rattle.plcx_xml.specs.Look.{name_of, children_of}
 use Rattle.plcx_xml.specs.declared.tree.Node.{Node, out-Node}
 use Rattle.plcx_xml.specs.declared.tree.Node.TheOpen.{Node-F}
@@ -19,13 +19,13 @@ use Rattle.plcx_table.specs.declared.row.Fate.{Fate}
 use Rattle.plcx_table.specs.declared.row.Fate.TheVariants.{Read, Refused, Skipped, Misplaced, Doubled}
 use Rattle.plcx_table.specs.declared.row.Taken.{Taken}
 use Rattle.plcx_table.specs.declared.row.FormatRule.TheVariants as rule
-use Rattle.plcx_table.specs.Constructs.{attribute_of, breaks_constructs, is_left_out, referred, diagrams}
+use Rattle.plcx_table.specs.Constructs.{attribute_of, is_left_out, referred, diagrams}
 use Rattle.plcx_table.specs.Format.{breaks, looked_at, FormatVerdict}
 use Rattle.plcx_table.specs.Limits.{no_counts, with_fate, counts_in, is_too_much, breaks_limits, IsFew}
 use Rattle.plcx_table.specs.Rules.{breaks_structure, breaks_attributes, has_bad_field}
 use Rattle.plcx_table.specs.Table.{Child, holds_text}
-use Rattle.plcx_table.specs.Walk.{Item, child_for, fate_for, fate_of, fate_as, fate_often, is_taken, is_aside, none_taken, taken_behind, at_node, items_below, below, items, first}
-use Rattle.plcx_draft.specs.Parts.{part_in, parts_of, parts_in, named, first_part, first_child}
+use Rattle.plcx_table.specs.Walk.{Item, child_for, fate_for, fate_of, fate_as, fate_often, is_taken, is_aside, none_taken, taken_behind, at_node, items_below, items, first}
+use Rattle.plcx_draft.specs.Parts.{part_in, parts_of, named, first_part, first_child}
 use Rattle.plcx_sound.proofs.Lists.{not_true, unbroken_by, all_front, all_back}
 use Rattle.plcx_sound.proofs.Variables.{or_false, at_most}
 
@@ -91,8 +91,13 @@ few_is c h =
     let f = or_false (p || v) e d.0 in
     let g = or_false p v f.0 in
     record {
-      pous = at_most max_pous c.pous g.0; variables = at_most max_variables c.variables g.1; elements = at_most max_elements c.elements f.1;
-      connections = at_most max_connections c.connections d.1; pin_connections = at_most max_pin_connections c.pin_connections b.1; pins = at_most max_pins c.pins a.1 }
+      pous = at_most max_pous c.pous g.0;
+      variables = at_most max_variables c.variables g.1;
+      elements = at_most max_elements c.elements f.1;
+      connections = at_most max_connections c.connections d.1;
+      pin_connections = at_most max_pin_connections c.pin_connections b.1;
+      pins = at_most max_pins c.pins a.1;
+    }
 
 few_from : (before xs : List Item) → Never (λ b x. breaks_limits b x ≡ true) before xs → FewFrom (counts_in before) xs
 few_from before [] never = tt
@@ -148,9 +153,6 @@ weigh weight [] = 0
 weigh weight (n ∷ ns) = weight_at weight (out-Node n) + weigh weight ns
 
 module _ (n : ℕ) (row : Row) where
-  abbrev In : Element → Type 0
-  In e = (t : Taken) × Good (items n (fate_of row t e) e)
-
   module _ (class : Fate → Bool) (weight : Element → ℕ) (light : (e : Element) (t : Taken) → Good (items n (fate_of row t e) e) → weight e ≤ count class (items n (fate_of row t e) e)) where
     node_light : (t : Taken) (node : Node-F Node Element) → Good (at_node (items n) row t node) → weight_at weight node ≤ count class (at_node (items n) row t node)
     node_light t (Node-F.Element e) h = light e t h
@@ -181,7 +183,7 @@ module _ (n : ℕ) (row : Row) where
         let here = at_node (items n) row t (out-Node node) in
         let rest = items_below (items n) row (taken_behind row t (out-Node node)) ns in
         option_holds (part_in part (out-Node node)) (filter_map (λ (m : Node). part_in part (out-Node m)) ns) (node_holds t (out-Node node) (good_front here rest h))
-          (nodes_hold (taken_behind row t (out-Node node)) ns (good_back here rest h))
+        (nodes_hold (taken_behind row t (out-Node node)) ns (good_back here rest h))
 
     -- what holds of each part of an element that is read
     pub parts_hold : (e : Element) → Good (items (suc n) (Read row) e) → Each P (parts_of part e)
@@ -303,7 +305,7 @@ module _ (row : Row) (name : List ℕ) (fate : Fate) (is : IsTold row name fate)
   unfolding first_child first_part
   child_holds n P holds e h found some =
       first_is P (parts_of (named name) e) found
-        (parts_hold (suc n) row (named name) P (λ c a t at g. let same = named_found c a at in subst P same.0 (holds c (told_good n t c same.1 g))) e h) some
+      (parts_hold (suc n) row (named name) P (λ c a t at g. let same = named_found c a at in subst P same.0 (holds c (told_good n t c same.1 g))) e h) some
 
   pub child_light : (n : ℕ) (class : Fate → Bool) (weight : Element → ℕ) → ((e : Element) → Good (items (suc n) fate e) → weight e ≤ count class (items (suc n) fate e))
       → (e : Element) → Good (items (suc (suc n)) (Read row) e) → option_weight weight (first_child name e) ≤ count class (items (suc (suc n)) (Read row) e)

@@ -1,8 +1,8 @@
-use Rattle.std.proofs.Common.{◌≡◌, None, sym, subst}
+use Rattle.std.proofs.Common.{None, sym, subst}
 use Rattle.plcx_xml.specs.declared.tree.Element.{Element}
 use Rattle.plcx_model.specs.Sound.{Sound}
 use Rattle.plcx_draft.specs.DraftIn.{draft_in}
-use Rattle.plcx_profile.specs.Profile.{ProfileVerdict, InForm, InDeclarations, Unbroken, project_in, StandsForProject}
+use Rattle.plcx_profile.specs.Profile.{ProfileVerdict, Unbroken, project_in}
 use Rattle.plcx_sound.proofs.Files.{draft_formed}
 use Rattle.plcx_sound.proofs.Settled.{sound_draft}
 use Rattle.plcx_sound.proofs.laws.sound_project.Goals as goal
