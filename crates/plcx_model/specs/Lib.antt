@@ -8,3 +8,4 @@ pub mod Networks
 pub mod Feedback
 pub mod Orders
 pub mod Numbering
+pub mod Sound
