@@ -1,5 +1,5 @@
 //! How coordinates and localIds are spelt: two networks, of which the upper one comes first in the text.
-use crate::tests::{NONE, NOT_BUILT, run_words};
+use crate::tests::{NONE, run_words};
 use plcx_command::Status;
 use std::alloc::Global;
 use std::test::Fail;
@@ -63,10 +63,12 @@ const TURNED: &str =
 #[test]
 fn refuses_other_numbers(rt: HostRuntime) -> Result<(), Fail> {
     let alloc = rt.alloc();
+    let place = FRONT.len() + "<inVariable localId=\"1\">".len();
+    let line = format!(in alloc; "plcx: rule 5 at byte {place}\n")?;
     for height in ["1000000000000", ".", "-", "1e3", "", "--1"] {
         let words = ["compile", "main.xml"];
         let left = run_words(alloc, &words, file(alloc, height, "0")?.as_str(), NONE)?;
-        assert!(rt; left.is(Status::NotBuilt, "", NOT_BUILT), "at {height}");
+        assert!(rt; left.is(Status::Broken, "", line.as_str()), "at {height}");
     }
     Ok(())
 }

@@ -1,4 +1,5 @@
-//! Tests over several crates, and of what needs no private name: values, functions, blocks, texts, and the whole way, from words and files in memory to what both sinks got.
+//! Tests over several crates, and of what needs no private name: values, functions, blocks, trees, and the whole way,
+//! from words and files in memory to what both sinks got.
 #![tactic(auto)]
 
 #[cfg(test)]
@@ -11,8 +12,6 @@ mod files;
 mod functions;
 #[cfg(test)]
 mod tests;
-#[cfg(test)]
-mod texts;
 #[cfg(test)]
 mod values;
 #[cfg(test)]

@@ -10,7 +10,7 @@ use std::test::Fail;
 const USAGE: &str =
     "plcx: usage: plcx ACTION FILE [EVENTS] [--program NAME] [--turns N] [--retain FILE]\n";
 
-pub const NOT_BUILT: &str = "plcx: not built\n";
+const NOT_BUILT: &str = "plcx: not built\n";
 
 /// What a call left behind.
 #[derive(Drop)]
@@ -86,21 +86,39 @@ fn writes_the_text_of_a_file(rt: HostRuntime) -> Result<(), Fail> {
 #[test]
 fn refuses_what_is_no_command_or_not_built(rt: HostRuntime) -> Result<(), Fail> {
     let alloc = rt.alloc();
-    let usage = run_words(alloc, &["compile"], ONE_WIRE, NONE)?;
-    assert!(rt; usage.is(Status::Usage, "", USAGE));
-    let events = run_words(alloc, &["compile", "main.xml", "b.csv"], ONE_WIRE, NONE)?;
-    assert!(rt; events.is(Status::Usage, "", USAGE));
-    let option = run_words(
-        alloc,
-        &["compile", "main.xml", "--turns", "5"],
-        ONE_WIRE,
-        NONE,
-    )?;
-    assert!(rt; option.is(Status::NotBuilt, "", NOT_BUILT));
-    let check = run_words(alloc, &["check", "main.xml"], ONE_WIRE, NONE)?;
-    assert!(rt; check.is(Status::NotBuilt, "", NOT_BUILT));
+    let faulty: [&[&str]; 4] = [
+        &["compile"],
+        &["compile", "main.xml", "b.csv"],
+        &["check", "main.xml", "--turns", "5"],
+        &["bench", "0"],
+    ];
+    for words in faulty {
+        let left = run_words(alloc, words, ONE_WIRE, NONE)?;
+        assert!(rt; left.is(Status::Usage, "", USAGE));
+    }
+    let simulate = run_words(alloc, &["simulate", "main.xml", "b.csv"], ONE_WIRE, NONE)?;
+    assert!(rt; simulate.is(Status::NotBuilt, "", NOT_BUILT));
     let other_type = run_words(alloc, &["compile", "main.xml"], OTHER_TYPE, NONE)?;
     assert!(rt; other_type.is(Status::NotBuilt, "", NOT_BUILT));
+    Ok(())
+}
+
+#[test]
+fn judges_a_file(rt: HostRuntime) -> Result<(), Fail> {
+    let alloc = rt.alloc();
+    let one = run_words(alloc, &["check", "main.xml"], ONE_WIRE, NONE)?;
+    assert!(rt; one.is(Status::Done, "ok\n", ""));
+    for (file, line) in [
+        ("", "plcx: rule 3 at byte 0\n"),
+        ("<a", "plcx: rule 2 at byte 0\n"),
+        ("<a/>", "plcx: rule 4 at byte 0\n"),
+        ("<project/>", "plcx: rule 4 at byte 0\n"),
+    ] {
+        for action in ["check", "compile"] {
+            let left = run_words(alloc, &[action, "main.xml"], file, NONE)?;
+            assert!(rt; left.is(Status::Broken, "", line), "at {file}");
+        }
+    }
     Ok(())
 }
 

@@ -1,5 +1,5 @@
 //! The places of faults: `read`, and the reading by expected symbols, on one table of texts.
-use crate::texts::machine::{Answer, walk, with_texts};
+use crate::machine::{Answer, walk, with_texts};
 use plcx_lex::{TextError, TextToken, tokens};
 use plcx_read::read;
 use std::alloc::{AllocError, Global};
