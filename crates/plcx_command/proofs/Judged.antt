@@ -32,7 +32,6 @@ no_shape project form stands none first =
     let same : first.first ≡ form = cc in
     none (subst IsFirstShape same first.shape)
 
-
 pub root_stands : (n : Node-F Node Element) (project : model'.Project) (j : Judgement) → StandsForRoot n project → IsJudgementOfProject project j → IsJudgementOfTree n j
 root_stands (Node-F.Text t) project j s h = absurd s
 root_stands (Node-F.Element e) project (Accepted a) s h = (s.verdict, rw s.is at h)
@@ -48,11 +47,11 @@ is_element tree root is = rw (is, node.outs-Element root) tt
 
 judged-element : (bytes : List ℕ) (root : Element) (j : Judgement) → IsTreeOf bytes root → IsJudgementOfElement root j → IsJudgement bytes j
 judged-element bytes root (Accepted a) t h = record {
-  verdict = InForm t h.0 (record { first = a.project; stands = h.1.stands; shape = (h.1.planned.pou, h.1.planned.one, h.1.planned.built) });
+  verdict = InForm root t h.0 (record { first = a.project; stands = h.1.stands; shape = (h.1.planned.pou, h.1.planned.one, h.1.planned.built) });
   kept = record { root = root; tree = t; verdict = h.0; stands = h.1.stands; planned = h.1.planned; sound = h.1.sound };
 }
-judged-element bytes root NotBuilt t h = record { verdict = InOtherForm t h.0 h.1; kept = tt }
-judged-element bytes root (Broken b) t h = record { verdict = InProfile t h; kept = tt }
+judged-element bytes root NotBuilt t h = record { verdict = InOtherForm root t h.0 h.1; kept = tt }
+judged-element bytes root (Broken b) t h = record { verdict = InProfile root t h; kept = tt }
 
 pub judged : (bytes : List ℕ) (tree : Node) (root : Element) (j : Judgement) → tree ≡ node.Element root → IsTreeOf bytes root → IsJudgementOfTree (out-Node tree) j → IsJudgement bytes j
 judged bytes tree root j is t h = judged-element bytes root j t (rw (is, node.outs-Element root) at h)
@@ -60,7 +59,7 @@ judged bytes tree root j is t h = judged-element bytes root j t (rw (is, node.ou
 pub faulted : (bytes : List ℕ) (e : XmlError) (j : Judgement) → Fails bytes e → IsFault e j → IsJudgement bytes j
 faulted bytes e (Accepted a) f h = absurd h
 faulted bytes e NotBuilt f h = absurd h
-faulted bytes e (Broken b) f h = record { verdict = InTree f h; kept = tt }
+faulted bytes e (Broken b) f h = record { verdict = InTree e f h; kept = tt }
 
 pub answered : (bytes : List ℕ) (next : Answer → Type 0) (j : Judgement) (a : Answer) → IsJudgement bytes j → Answers next (verdict_of j) a → Judged bytes next a
 answered bytes next j a h n = record { verdict = verdict_of j; judged = h.verdict; answers = n }

@@ -18,7 +18,7 @@ use Rattle.plcx_command.specs.declared.status.Status.{Status}
 use Rattle.plcx_command.specs.declared.status.Status.TheVariants as status
 
 -- what follows on a file that is accepted is an output
-OnlyOutputs : (List ℕ → Answer → Type 0) → Type 0
+abbrev OnlyOutputs : (List ℕ → Answer → Type 0) → Type 0
 OnlyOutputs next = (bytes : List ℕ) (why : Refused) (line : List ℕ) → next bytes (refusal why line) → ⊥
 
 accepting : OnlyOutputs (λ bytes a. IsAccepting a)
@@ -28,7 +28,7 @@ texts : OnlyOutputs IsText
 texts bytes why line t = let e = t.answer in cc
 
 -- the status of a verdict
-status_of : Verdict → Status
+abbrev status_of : Verdict → Status
 status_of verdict.Accepted = status.Done
 status_of verdict.NotBuilt = status.NotBuilt
 status_of (verdict.Broken b) = status.Broken
@@ -95,7 +95,7 @@ broken-verdict (verdict.Broken b) e = (b, refl)
 module _ (one_verdict : (bytes : List ℕ) (v w : Verdict) → FileVerdict bytes v → FileVerdict bytes w → v ≡ w)
     (told : List ℕ → Option (List ℕ)) (rose : List ℕ → Type 0) where
   -- what is answered after the file of a name was read
-  FileSays : (List ℕ → Answer → Type 0) → List ℕ → Answer → Type 0
+  abbrev FileSays : (List ℕ → Answer → Type 0) → List ℕ → Answer → Type 0
   FileSays next name a = AfterRead (told name) (rose name) name long_answer (λ bytes. Judged bytes (next bytes)) a
 
   -- a file that is told has these bytes and no others
@@ -380,7 +380,7 @@ module _ (one_verdict : (bytes : List ℕ) (v w : Verdict) → FileVerdict bytes
       (λ e. (written-usage command ends.answer out err ends.said (rw e at ends.written)).0),
       (λ e. none-usage ends.answer s out err d (rw e at ends.said) ends.written),
     )),
-    (λ e. (written-usage command ends.answer out err ends.said (rw e at ends.written)).1),
+    (λ e. let found = written-usage command ends.answer out err ends.said (rw e at ends.written) in (found.1, found.2)),
   )
 
   -- the line of a fault of a read
@@ -453,26 +453,26 @@ module _ (one_verdict : (bytes : List ℕ) (v w : Verdict) → FileVerdict bytes
 
   -- an output comes whole where its sink has no fault
   output-whole : (bytes : List ℕ) (s : Status) (out err : Change) → (Rose out.had out.has → ⊥) → Written (output bytes) s out err → s ≡ status.Done
-  output-whole bytes status.Done out err no w = refl
-  output-whole bytes status.WriteFault out err no w = absurd (no w.0.0)
-  output-whole bytes status.Broken out err no w = absurd w
-  output-whole bytes status.Usage out err no w = absurd w
-  output-whole bytes status.NotBuilt out err no w = absurd w
-  output-whole bytes status.ReadFault out err no w = absurd w
-  output-whole bytes status.NoMemory out err no w = absurd w
+  output-whole bytes status.Done out err calm w = refl
+  output-whole bytes status.WriteFault out err calm w = absurd (calm w.0.0)
+  output-whole bytes status.Broken out err calm w = absurd w
+  output-whole bytes status.Usage out err calm w = absurd w
+  output-whole bytes status.NotBuilt out err calm w = absurd w
+  output-whole bytes status.ReadFault out err calm w = absurd w
+  output-whole bytes status.NoMemory out err calm w = absurd w
 
   memory-whole : (s : Status) (out err : Change) → (Rose err.had err.has → ⊥) → Written memory_answer s out err → s ≡ status.NoMemory
-  memory-whole status.NoMemory out err no w = refl
-  memory-whole status.WriteFault out err no w = absurd (no w.0.0)
-  memory-whole status.Done out err no w = absurd w
-  memory-whole status.Broken out err no w = let e = w.0 in absurd (cc)
-  memory-whole status.Usage out err no w = let e = w.0 in absurd (cc)
-  memory-whole status.NotBuilt out err no w = let e = w.0 in absurd (cc)
-  memory-whole status.ReadFault out err no w = let e = w.0 in absurd (cc)
+  memory-whole status.NoMemory out err calm w = refl
+  memory-whole status.WriteFault out err calm w = absurd (calm w.0.0)
+  memory-whole status.Done out err calm w = absurd w
+  memory-whole status.Broken out err calm w = let e = w.0 in absurd (cc)
+  memory-whole status.Usage out err calm w = let e = w.0 in absurd (cc)
+  memory-whole status.NotBuilt out err calm w = let e = w.0 in absurd (cc)
+  memory-whole status.ReadFault out err calm w = let e = w.0 in absurd (cc)
 
   file-complete : (next : List ℕ → Answer → Type 0) → OnlyOutputs next → (name bytes : List ℕ) (a : Answer) (s : Status) (out err : Change) → told name ≡ Some bytes
       → FileVerdict bytes verdict.Accepted → (rose name → ⊥) → (Rose out.had out.has → ⊥) → FileSays next name a → Written a s out err → s ≡ status.Done
-  file-complete next only name bytes a s out err k h sound no says w = elim (file-answer next name bytes a k says) [
+  file-complete next only name bytes a s out err k h sound calm says w = elim (file-answer next name bytes a k says) [
     | inl f ↦ absurd (sound f.0)
     | inr answer ↦
         let accepted = one_verdict bytes answer.verdict verdict.Accepted answer.judged h in
@@ -480,19 +480,19 @@ module _ (one_verdict : (bytes : List ℕ) (v w : Verdict) → FileVerdict bytes
   ]
     where
       done : (x : Answer) → next bytes x → Written x s out err → s ≡ status.Done
-      done (output text) n written = output-whole text s out err no written
+      done (output text) n written = output-whole text s out err calm written
       done (refusal why line) n written = absurd (only bytes why line n)
 
   complete-says : (command : Option Command) (name bytes : List ℕ) (a : Answer) (s : Status) (out err : Change) → file_of command ≡ Some name → told name ≡ Some bytes
       → FileVerdict bytes verdict.Accepted → (rose name → ⊥) → (Rose out.had out.has → ⊥) → Says told rose command a → Written a s out err → s ≡ status.Done
-  complete-says (Some (check n)) name bytes a s out err is k h sound no says w =
-      let same : n ≡ name = cc in file-complete _ accepting name bytes a s out err k h sound no (rw same at says) w
-  complete-says (Some (compile n)) name bytes a s out err is k h sound no says w =
-      let same : n ≡ name = cc in file-complete IsText texts name bytes a s out err k h sound no (rw same at says) w
-  complete-says (Some (simulate r)) name bytes a s out err is k h sound no says w = absurd (cc)
-  complete-says (Some (run r)) name bytes a s out err is k h sound no says w = absurd (cc)
-  complete-says (Some (bench n)) name bytes a s out err is k h sound no says w = absurd (cc)
-  complete-says None name bytes a s out err is k h sound no says w = absurd (cc)
+  complete-says (Some (check n)) name bytes a s out err is k h sound calm says w =
+      let same : n ≡ name = cc in file-complete _ accepting name bytes a s out err k h sound calm (rw same at says) w
+  complete-says (Some (compile n)) name bytes a s out err is k h sound calm says w =
+      let same : n ≡ name = cc in file-complete IsText texts name bytes a s out err k h sound calm (rw same at says) w
+  complete-says (Some (simulate r)) name bytes a s out err is k h sound calm says w = absurd (cc)
+  complete-says (Some (run r)) name bytes a s out err is k h sound calm says w = absurd (cc)
+  complete-says (Some (bench n)) name bytes a s out err is k h sound calm says w = absurd (cc)
+  complete-says None name bytes a s out err is k h sound calm says w = absurd (cc)
 
   pub is_complete : (command : Option Command) (s : Status) (out err : Change) → Ends told rose command s out err → IsComplete told rose command s out err
   is_complete command s out err ends name bytes is k h sound no_out no_err = elim ends.said [

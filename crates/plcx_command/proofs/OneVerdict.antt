@@ -1,15 +1,20 @@
 -- A file has one verdict.
-use Rattle.std.proofs.Common.{◌≡◌, ◌≢◌, ◌≤◌, ◌<◌, ℕ, List, refl, sym, ap, ◌∙◌, subst, length, Option, Some, None, arith}
+use Rattle.std.proofs.Common.{◌≡◌, ◌≢◌, ◌≤◌, ◌<◌, ℕ, List, refl, sym, ap, ap₂, ◌∙◌, subst, length, Option, Some, None, arith}
 use Rattle.plcx_xml.specs.Faults.{Fails}
 use Rattle.plcx_xml.specs.StandsForTree.{IsTreeOf}
 use Rattle.plcx_xml.specs.declared.error.XmlError.{XmlError}
 use Rattle.plcx_xml.specs.declared.error.XmlError.TheVariants as xml
 use Rattle.plcx_xml.specs.declared.tree.Element.{Element}
 use Rattle.plcx_model.specs.declared.broken.Broken as model
+use Rattle.plcx_model.specs.declared.broken.Place.{Place}
+use Rattle.plcx_model.specs.declared.broken.Place.TheVariants.{Byte}
 use Rattle.plcx_model.specs.declared.project.Project as model'
 use Rattle.plcx_profile.specs.Profile.{IsBroken, ProfileVerdict, project_in}
 use Rattle.plcx_command.specs.FirstForm.{IsFirst}
 use Rattle.plcx_command.specs.Verdict.{Verdict, Accepted, NotBuilt, Broken, IsVerdict, InTree, InProfile, InOtherForm, InForm, FileVerdict, TooLong, Within, tree_rule, limit}
+
+some_same : {A : Type 0} (x y : A) → Some x ≡ Some y → x ≡ y
+some_same x y h = cc
 
 -- a fault that is a rule is no want of memory
 no-memory : (e : XmlError) (b : model.Broken) → tree_rule e ≡ Some b → e ≢ xml.NoMemory
@@ -27,39 +32,41 @@ module _
   where
     same-broken : (root : Element) (b c : model.Broken) → IsBroken root b → IsBroken root c → b ≡ c
     same-broken root b c (n, at, h) (m, at', k) =
-        let same = one_profile root (Some (b.rule.0, n)) (Some (c.rule.0, m)) h k in
-        cc
+        let same : Some (b.rule.0, n) ≡ Some (c.rule.0, m) = one_profile root (Some (b.rule.0, n)) (Some (c.rule.0, m)) h k in
+        let pair : (b.rule.0, n) ≡ (c.rule.0, m) = some_same (b.rule.0, n) (c.rule.0, m) same in
+        let place : b.place ≡ c.place = at ∙ ap (λ (x : ℕ × ℕ). Byte x.1) pair ∙ sym at' in
+        ap₂ (λ (r : ℕ) (x : Place). record { rule = record { 0 = r }; place = x }) (ap (λ (x : ℕ × ℕ). x.0) pair) place
 
     no-broken : (root : Element) (b : model.Broken) → IsBroken root b → ProfileVerdict root None → ⊥
     no-broken root b (n, at, h) none = let same = one_profile root (Some (b.rule.0, n)) None h none in cc
 
     same-verdict : (bytes : List ℕ) (v w : Verdict) → IsVerdict bytes v → IsVerdict bytes w → v ≡ w
-    same-verdict bytes v w (InTree {e} {b} f r) (InTree {e'} {c} f' r') =
+    same-verdict bytes v w (InTree e {b} f r) (InTree e' {b = c} f' r') =
         let same : e ≡ e' = one_fault bytes e e' (no-memory e b r) (no-memory e' c r') f f' in
         let rules : Some b ≡ Some c = sym r ∙ ap tree_rule same ∙ r' in
         cc
-    same-verdict bytes v w (InTree {e} {b} f r) (InProfile {root} t h) = absurd (no_fault bytes e root (no-memory e b r) f t)
-    same-verdict bytes v w (InTree {e} {b} f r) (InOtherForm {root} t h n) = absurd (no_fault bytes e root (no-memory e b r) f t)
-    same-verdict bytes v w (InTree {e} {b} f r) (InForm {root} t h n) = absurd (no_fault bytes e root (no-memory e b r) f t)
-    same-verdict bytes v w (InProfile {root} t h) (InTree {e} {b} f r) = absurd (no_fault bytes e root (no-memory e b r) f t)
-    same-verdict bytes v w (InOtherForm {root} t h n) (InTree {e} {b} f r) = absurd (no_fault bytes e root (no-memory e b r) f t)
-    same-verdict bytes v w (InForm {root} t h n) (InTree {e} {b} f r) = absurd (no_fault bytes e root (no-memory e b r) f t)
-    same-verdict bytes v w (InProfile {root} {b} t h) (InProfile {root'} {c} t' h') =
+    same-verdict bytes v w (InTree e {b} f r) (InProfile root t h) = absurd (no_fault bytes e root (no-memory e b r) f t)
+    same-verdict bytes v w (InTree e {b} f r) (InOtherForm root t h n) = absurd (no_fault bytes e root (no-memory e b r) f t)
+    same-verdict bytes v w (InTree e {b} f r) (InForm root t h n) = absurd (no_fault bytes e root (no-memory e b r) f t)
+    same-verdict bytes v w (InProfile root t h) (InTree e {b} f r) = absurd (no_fault bytes e root (no-memory e b r) f t)
+    same-verdict bytes v w (InOtherForm root t h n) (InTree e {b} f r) = absurd (no_fault bytes e root (no-memory e b r) f t)
+    same-verdict bytes v w (InForm root t h n) (InTree e {b} f r) = absurd (no_fault bytes e root (no-memory e b r) f t)
+    same-verdict bytes v w (InProfile root {b} t h) (InProfile root' {b = c} t' h') =
         let same : root ≡ root' = one_root bytes root root' t t' in
         ap Broken (same-broken root' b c (subst (λ (r : Element). IsBroken r b) same h) h')
-    same-verdict bytes v w (InProfile {root} {b} t h) (InOtherForm {root'} t' h' n) =
+    same-verdict bytes v w (InProfile root {b} t h) (InOtherForm root' t' h' n) =
         absurd (no-broken root' b (subst (λ (r : Element). IsBroken r b) (one_root bytes root root' t t') h) h')
-    same-verdict bytes v w (InProfile {root} {b} t h) (InForm {root'} t' h' n) =
+    same-verdict bytes v w (InProfile root {b} t h) (InForm root' t' h' n) =
         absurd (no-broken root' b (subst (λ (r : Element). IsBroken r b) (one_root bytes root root' t t') h) h')
-    same-verdict bytes v w (InOtherForm {root'} t' h' n) (InProfile {root} {b} t h) =
+    same-verdict bytes v w (InOtherForm root' t' h' n) (InProfile root {b} t h) =
         absurd (no-broken root' b (subst (λ (r : Element). IsBroken r b) (one_root bytes root root' t t') h) h')
-    same-verdict bytes v w (InForm {root'} t' h' n) (InProfile {root} {b} t h) =
+    same-verdict bytes v w (InForm root' t' h' n) (InProfile root {b} t h) =
         absurd (no-broken root' b (subst (λ (r : Element). IsBroken r b) (one_root bytes root root' t t') h) h')
-    same-verdict bytes v w (InOtherForm t h n) (InOtherForm t' h' n') = refl
-    same-verdict bytes v w (InForm t h n) (InForm t' h' n') = refl
-    same-verdict bytes v w (InOtherForm {root} t h none) (InForm {root'} t' h' first) =
+    same-verdict bytes v w (InOtherForm r t h n) (InOtherForm r' t' h' n') = refl
+    same-verdict bytes v w (InForm r t h n) (InForm r' t' h' n') = refl
+    same-verdict bytes v w (InOtherForm root t h none) (InForm root' t' h' first) =
         absurd (none (subst (λ (r : Element). IsFirst (project_in r)) (one_root bytes root' root t' t) first))
-    same-verdict bytes v w (InForm {root'} t' h' first) (InOtherForm {root} t h none) =
+    same-verdict bytes v w (InForm root' t' h' first) (InOtherForm root t h none) =
         absurd (none (subst (λ (r : Element). IsFirst (project_in r)) (one_root bytes root' root t' t) first))
 
     pub same-file : (bytes : List ℕ) (v w : Verdict) → FileVerdict bytes v → FileVerdict bytes w → v ≡ w

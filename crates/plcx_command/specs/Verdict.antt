@@ -35,10 +35,10 @@ tree_rule xml.NoMemory = None
 
 -- The verdict on bytes: they stand for no tree; or their tree breaks a rule; or it breaks none.
 pub data IsVerdict (bytes : List ℕ) : Verdict → Type 0 where
-  InTree : {e : XmlError} {b : model.Broken} → Fails bytes e → tree_rule e ≡ Some b → IsVerdict bytes (Broken b)
-  InProfile : {root : Element} {b : model.Broken} → IsTreeOf bytes root → IsBroken root b → IsVerdict bytes (Broken b)
-  InOtherForm : {root : Element} → IsTreeOf bytes root → ProfileVerdict root None → (IsFirst (project_in root) → ⊥) → IsVerdict bytes NotBuilt
-  InForm : {root : Element} → IsTreeOf bytes root → ProfileVerdict root None → IsFirst (project_in root) → IsVerdict bytes Accepted
+  InTree : (e : XmlError) {b : model.Broken} → Fails bytes e → tree_rule e ≡ Some b → IsVerdict bytes (Broken b)
+  InProfile : (root : Element) {b : model.Broken} → IsTreeOf bytes root → IsBroken root b → IsVerdict bytes (Broken b)
+  InOtherForm : (root : Element) → IsTreeOf bytes root → ProfileVerdict root None → (IsFirst (project_in root) → ⊥) → IsVerdict bytes NotBuilt
+  InForm : (root : Element) → IsTreeOf bytes root → ProfileVerdict root None → IsFirst (project_in root) → IsVerdict bytes Accepted
 
 -- The verdict on a file, whose length is looked at first.
 pub data FileVerdict (bytes : List ℕ) : Verdict → Type 0 where

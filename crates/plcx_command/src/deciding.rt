@@ -1,7 +1,7 @@
 //! What is to be written, before anything is.
 ghost use Rattle.std.specs.Prelude.{◌≡◌, IfOk};
 ghost use Rattle.plcx_io.specs.Counts.{Rose};
-ghost use Rattle.plcx_words.specs.Command as words;
+ghost use Rattle.plcx_words.specs.Command.{command_of};
 ghost use Rattle.plcx_words.specs.Says.{said_by};
 ghost use Rattle.plcx_command.specs.Answer.{usage_answer, not_built_answer, read_answer, broken_answer};
 ghost use Rattle.plcx_command.specs.Says.{Says, SaysTo, AfterRead, checked, compiled, long_answer};
@@ -122,7 +122,7 @@ fn obey<D: Desk>(alloc: Global, command: Command<'_>, desk: &mut D) -> Result<Re
 /// What the words answer. Where they are no command, the desk is as it was.
 pub fn decide<D: Desk>(alloc: Global, words: &Words, desk: &mut D) -> Result<Reply, NoMemory>
     ensures { IfOk result (λ reply. Says (D.file desk.old)
-        (λ name. Rose (D.faults desk.old name) (D.faults desk.new name)) (words.command_of words.now) (answer_of reply)) }
+        (λ name. Rose (D.faults desk.old name) (D.faults desk.new name)) (command_of words.now) (answer_of reply)) }
 {
     match command_of(alloc, words) {
         Ok(command) => obey(alloc, command, desk),
