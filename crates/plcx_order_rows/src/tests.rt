@@ -146,18 +146,24 @@ fn a_latch_and_a_counter(rt: HostRuntime) -> Result<(), Fail> {
     Ok(())
 }
 
-#[test]
-fn a_ring(rt: HostRuntime) -> Result<(), Fail> {
-    let alloc = rt.alloc();
-    // block i takes the block before it and a literal; the connection from the last to the first alone is feedback
+/// A ring of so many blocks, each with a literal at its other input: half of the elements are literals.
+fn ring(alloc: Global, blocks: usize, elements: u64) -> Result<Tables, Fail> {
     let mut ends = Vec::new(alloc);
-    for i in 0..40usize {
-        ends.push((i.wrapping_add(39) % 40, i))?;
-        ends.push((i.wrapping_add(40), i))?;
+    for i in 0..blocks {
+        let before = if i == 0 { blocks } else { i }.wrapping_sub(1);
+        ends.push((before, i))?;
+        ends.push((i.wrapping_add(blocks), i))?;
     }
-    let ring = tables(alloc, plain_keys(alloc, 80)?, &[], &ends)?;
-    assert!(rt; agrees(alloc, &ring)?);
-    let marks = feedback_uncounted(alloc, &wires(alloc, &ring)?.ok_or("no graph")?)?;
+    tables(alloc, plain_keys(alloc, elements)?, &[], &ends)
+}
+
+#[test]
+fn rings(rt: HostRuntime) -> Result<(), Fail> {
+    let alloc = rt.alloc();
+    assert!(rt; agrees(alloc, &ring(alloc, 40, 80)?)?);
+    // the connection from the last block to the first alone is feedback
+    let large = ring(alloc, 2000, 4000)?;
+    let marks = feedback_uncounted(alloc, &wires(alloc, &large)?.ok_or("no graph")?)?;
     assert_eq!(rt; marks.iter().filter(|mark| **mark).count(), 1);
     assert_eq!(rt; marks.first().copied(), Some(true));
     Ok(())
