@@ -69,7 +69,7 @@ pub fn none_taken() -> Taken
     }
 }
 
-/// Whether an element of the same group stands before. False where the entry has no seat.
+/// Whether a child of that seat stands before.
 pub fn is_taken(seat: Seat, taken: Taken) -> bool
     ensures { result ≡ is_taken seat taken }
 {
