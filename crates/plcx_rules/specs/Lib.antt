@@ -6,3 +6,6 @@ pub mod Helds
 pub mod Sources
 pub mod Items
 pub mod LinkRules
+-- Worked examples.
+pub mod Pieces
+pub mod LinkExamples

@@ -6,7 +6,12 @@
 #![tactic(auto)]
 
 mod callee;
+mod examples;
 mod rule;
 
 pub use callee::Callee;
+pub use examples::{
+    examples_of_blocks, examples_of_connections, examples_of_expressions, examples_of_formals,
+    examples_of_modifiers, examples_of_names, examples_of_references,
+};
 pub use rule::LinkRule;
