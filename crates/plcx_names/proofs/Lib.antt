@@ -1,3 +1,6 @@
 pub mod Inserted
-pub mod Places
+pub mod Firsts
 pub mod Finding
+pub mod HeldNames
+pub mod Named
+pub mod FormalNames

@@ -1,15 +1,17 @@
 //! The pins of function blocks and standard blocks, by their names.
-ghost use Rattle.std.specs.Prelude.{◌≡◌, ◌++◌, map, option_map, nat_eq, IfOk};
+ghost use Rattle.std.specs.Prelude.{◌≡◌, ◌++◌, ℕ, List, map, option_map, option_and_then, slice_get, nat_eq, IfOk};
 ghost use Rattle.std.specs.List.{find, filter, filter_map};
 ghost use Rattle.plcx_rules.specs.Declarations.{Declaration, class_place, same_class};
 ghost use Rattle.plcx_rules.specs.Callees.{BlockPin, role_place, pin_of, pin_named, standard_pins};
 ghost use Rattle.plcx_names.specs.Seen.{shown_variable, shown_pin, is_pin, PinsTold};
+ghost use Rattle.plcx_names.specs.Told.{place_at, found_or, place_if};
+ghost use Rattle.plcx_names.specs.declared.pins.OwnPin.{OwnPin};
 
 use crate::tables::with_name;
 use crate::texts::same_name;
 use crate::variables::OwnVariable;
 use indexmap::IndexMap;
-use plcx_model::{ListClass, VarTy};
+use plcx_model::{ListClass, VarTy, Variable};
 use plcx_std::{Role, StdKind};
 use plcx_types::Ty;
 use std::alloc::{AllocError, Global};
@@ -18,7 +20,7 @@ use std::marker::Model;
 /// A pin of a function block: a variable of an elementary type.
 #[derive(Clone, Copy)]
 pub struct OwnPin<'a> {
-    pub name: &'a [u8],
+    pub variable: &'a Variable,
     pub ty: Ty,
 }
 
@@ -45,7 +47,7 @@ fn plain_pin<'a>(one: &OwnVariable<'a>) -> Option<OwnPin<'a>>
 {
     match one.variable.ty {
         VarTy::Plain(ty) => Some(OwnPin {
-            name: one.variable.name.text(),
+            variable: one.variable,
             ty,
         }),
         VarTy::Std(_) | VarTy::Block(_) => None,
@@ -71,14 +73,26 @@ pub fn pins_of<'a>(
     Ok(pins)
 }
 
+/// One pin more.
+fn with_one(
+    alloc: Global,
+    table: IndexMap<Vec<u8>, usize>,
+    place: usize,
+    pin: &OwnPin,
+) -> Result<IndexMap<Vec<u8>, usize>, AllocError>
+    ensures { IfOk result (λ after. (q : List ℕ) → place_at q after.entries ≡ found_or (place_at q table.entries) (place_if (is_pin q (shown_pin pin.now)) place)) }
+{
+    let name = pin.variable.name.text();
+    Ok(with_name(alloc, table, place, Some(name))?)
+}
+
 /// The place of each name in lower case.
 fn places_of(alloc: Global, pins: &[OwnPin]) -> Result<IndexMap<Vec<u8>, usize>, AllocError>
     ensures { IfOk result (λ table. PinsTold pins.now table.entries) }
 {
     let mut table = IndexMap::new(alloc);
     for (place, pin) in pins.iter().enumerate() {
-        let name = pin.name;
-        table = with_name(alloc, table, place, Some(name))?;
+        table = with_one(alloc, table, place, pin)?;
     }
     Ok(table)
 }
@@ -102,6 +116,19 @@ impl<'a> Model for Pins<'a> {
     ghost invariant = { λ p. PinsTold p.pins.items p.table.entries };
 }
 
+/// What stands at a place, where one is given.
+fn at(pins: &[OwnPin], place: Option<usize>) -> Option<Ty>
+    ensures { result ≡ option_map (λ (p : OwnPin). p.ty) (option_and_then (slice_get pins.now) place) }
+{
+    match place {
+        None => None,
+        Some(place) => match pins.get(place) {
+            None => None,
+            Some(pin) => Some(pin.ty),
+        },
+    }
+}
+
 impl<'a> Pins<'a> {
     /// These pins.
     pub fn of(alloc: Global, pins: Vec<OwnPin<'a>>) -> Result<Pins<'a>, AllocError>
@@ -122,9 +149,8 @@ impl<'a> Pins<'a> {
     pub fn find(&self, key: &[u8]) -> Option<Ty>
         ensures { result ≡ option_map (λ (p : BlockPin). p.ty) (find (is_pin key.now) self.now) }
     {
-        let place = self.table.get(key).copied()?;
-        let pin = self.pins.get(place)?;
-        Some(pin.ty)
+        let place = self.table.get(key).copied();
+        at(&self.pins, place)
     }
 }
 

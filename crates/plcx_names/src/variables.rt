@@ -1,8 +1,9 @@
 //! The variables of a POU by their names.
-ghost use Rattle.std.specs.Prelude.{◌≡◌, ◌++◌, map, option_map, IfOk};
+ghost use Rattle.std.specs.Prelude.{◌≡◌, ◌++◌, ℕ, List, map, option_map, option_and_then, slice_get, IfOk};
 ghost use Rattle.std.specs.List.{find, flat_map};
 ghost use Rattle.plcx_rules.specs.Declarations.{declared_in, declarations_of};
 ghost use Rattle.plcx_names.specs.Seen.{shown_variable, summary, is_declared, VariablesTold};
+ghost use Rattle.plcx_names.specs.Told.{place_at, found_or, place_if};
 
 use crate::tables::with_name;
 use indexmap::IndexMap;
@@ -55,6 +56,19 @@ pub fn variables_of(alloc: Global, pou: &Pou) -> Result<Vec<OwnVariable<'_>>, Al
     Ok(found)
 }
 
+/// One variable more.
+fn with_one(
+    alloc: Global,
+    table: IndexMap<Vec<u8>, usize>,
+    place: usize,
+    one: &OwnVariable,
+) -> Result<IndexMap<Vec<u8>, usize>, AllocError>
+    ensures { IfOk result (λ after. (q : List ℕ) → place_at q after.entries ≡ found_or (place_at q table.entries) (place_if (is_declared q (shown_variable one.now)) place)) }
+{
+    let name = one.variable.name.text();
+    Ok(with_name(alloc, table, place, Some(name))?)
+}
+
 /// The place of each name in lower case.
 fn places_of(
     alloc: Global,
@@ -64,8 +78,7 @@ fn places_of(
 {
     let mut table = IndexMap::new(alloc);
     for (place, one) in all.iter().enumerate() {
-        let name = one.variable.name.text();
-        table = with_name(alloc, table, place, Some(name))?;
+        table = with_one(alloc, table, place, one)?;
     }
     Ok(table)
 }
@@ -99,6 +112,19 @@ fn summary(one: &OwnVariable) -> Declared
     }
 }
 
+/// What stands at a place, where one is given.
+fn at(all: &[OwnVariable], place: Option<usize>) -> Option<Declared>
+    ensures { result ≡ option_map (λ v. summary (shown_variable v)) (option_and_then (slice_get all.now) place) }
+{
+    match place {
+        None => None,
+        Some(place) => match all.get(place) {
+            None => None,
+            Some(one) => Some(summary(one)),
+        },
+    }
+}
+
 impl<'a> Variables<'a> {
     /// These variables.
     pub fn of(alloc: Global, all: Vec<OwnVariable<'a>>) -> Result<Variables<'a>, AllocError>
@@ -112,8 +138,7 @@ impl<'a> Variables<'a> {
     pub fn find(&self, key: &[u8]) -> Option<Declared>
         ensures { result ≡ option_map summary (find (is_declared key.now) self.now) }
     {
-        let place = self.table.get(key).copied()?;
-        let one = self.all.get(place)?;
-        Some(summary(one))
+        let place = self.table.get(key).copied();
+        at(&self.all, place)
     }
 }

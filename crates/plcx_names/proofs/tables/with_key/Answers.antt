@@ -2,7 +2,7 @@ use Rattle.std.proofs.Common.{ℕ, List, refl, sym, ◌∙◌}
 use Rattle.std.specs.Map.{lookup}
 use Rattle.std.specs.Str.{bytes_eq}
 use Rattle.plcx_names.proofs.Inserted.{inserted_as}
-use Rattle.plcx_names.proofs.Places.{added, stays}
+use Rattle.plcx_names.proofs.Firsts.{added, stays}
 use Rattle.plcx_names.proofs.tables.with_key.Goals as goal
 
 pub returns-then-contains_key : goal.returns-then-contains_key

@@ -2,7 +2,7 @@ use Rattle.std.proofs.Common.{refl}
 use Rattle.plcx_names.specs.declared.variables.OwnVariable.{OwnVariable}
 use Rattle.plcx_names.specs.Seen.{is_declared, shown_variable}
 use Rattle.plcx_names.specs.Told.{place_at}
-use Rattle.plcx_names.proofs.Places.{more, done}
+use Rattle.plcx_names.proofs.Firsts.{more, done}
 use Rattle.plcx_names.proofs.variables.places_of.Goals as goal
 
 pub loop-place-preserved : goal.loop-place-preserved
