@@ -37,16 +37,31 @@ fn pin_at(func: Func, place: u32) -> Pin0
     pins.input(place)
 }
 
+#[tactic(auto, unfolding(plcx_rules::specs::Callees::function_input))]
+fn class_at(func: Func, place: u32) -> Class
+    requires { place < 4294967295 }
+    ensures { result ≡ (function_input func place).class }
+{
+    pin_at(func, place).class
+}
+
+fn name_text(alloc: Global, letters: &str, number: Option<u32>) -> Result<String, AllocError>
+    ensures { IfOk result (λ name. string_bytes name ≡ letters.now ++ number_text number) }
+{
+    match number {
+        None => Ok(String::from_str(alloc, letters)?),
+        Some(number) => Ok(format!(in alloc; "{letters}{number}")?),
+    }
+}
+
 /// The name of the input of a function at a place.
+#[tactic(auto, unfolding(plcx_rules::specs::Callees::function_input))]
 fn input_name(alloc: Global, func: Func, place: u32) -> Result<String, AllocError>
     requires { place < 4294967295 }
     ensures { IfOk result (λ name. string_bytes name ≡ (function_input func place).name) }
 {
     let name = pin_at(func, place).name;
-    match name.number {
-        None => Ok(String::from_str(alloc, name.letters)?),
-        Some(number) => Ok(format!(in alloc; "{}{number}", name.letters)?),
-    }
+    Ok(name_text(alloc, name.letters, name.number)?)
 }
 
 fn is_input(alloc: Global, func: Func, place: u32, name: &[u8]) -> Result<bool, AllocError>
@@ -68,7 +83,7 @@ fn function_input(
 {
     for place in 0..count {
         if is_input(alloc, func, place, name)? {
-            return Ok(Some(pin_at(func, place).class));
+            return Ok(Some(class_at(func, place)));
         }
     }
     Ok(None)

@@ -30,9 +30,7 @@ pub enum Held {
 fn can_be_written(one: Declared) -> bool
     ensures { result ≡ can_be_written one }
 {
-    matches!(one.ty, VarTy::Plain(_))
-        && !one.constant
-        && !same_class(one.class, ListClass::Input)
+    matches!(one.ty, VarTy::Plain(_)) && !one.constant && !same_class(one.class, ListClass::Input)
 }
 
 fn held_declared(one: Declared) -> Held
@@ -89,11 +87,7 @@ ghost use Rattle.plcx_names.specs.declared.helds.Held.TheVariants.{Output};
 ghost use Rattle.plcx_rules.specs.Callees.{BlockPin, pin_named, outputs_of_type};
 
 /// What a name leads to.
-fn variable_named(
-    alloc: Global,
-    owner: &Owner,
-    name: &[u8],
-) -> Result<Option<Declared>, AllocError>
+fn variable_named(alloc: Global, owner: &Owner, name: &[u8]) -> Result<Option<Declared>, AllocError>
     ensures { IfOk result (λ one. one ≡ declared_as owner.now (in_lower_case name.now)) }
 {
     let key = in_lower_case(alloc, name)?;
@@ -137,6 +131,19 @@ fn member_held(
     }
 }
 
+/// The literal that a text is.
+#[tactic(auto, unfolding(crate::specs::SeenHelds::held_as))]
+fn literal_held(text: &[u8]) -> Option<Held>
+    ensures { result ≡ option_map held_as (option_map OfLiteral (literal_of (in_lower_case text.now))) }
+{
+    match read_literal(text) {
+        Ok(literal) => Some(Held::Literal(literal)),
+        Err(_) => None,
+    }
+}
+
+ghost use Rattle.plcx_rules.specs.Helds.{OfLiteral};
+
 /// What a text holds without white space around it.
 #[tactic(auto, unfolding(plcx_rules::specs::Helds::held_in))]
 fn held_in(
@@ -147,8 +154,8 @@ fn held_in(
 ) -> Result<Option<Held>, AllocError>
     ensures { IfOk result (λ held. held ≡ option_map held_as (held_in scope.now owner.now text.now)) }
 {
-    if let Ok(literal) = read_literal(text) {
-        return Ok(Some(Held::Literal(literal)));
+    if let Some(held) = literal_held(text) {
+        return Ok(Some(held));
     }
     match name_held(alloc, owner, text)? {
         Some(held) => Ok(Some(held)),

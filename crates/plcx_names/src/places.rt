@@ -43,12 +43,7 @@ fn with_named(
 ) -> Result<IndexMap<Vec<u8>, usize>, AllocError>
     ensures { IfOk result (λ after. (q : List ℕ) → place_at q after.entries ≡ found_or (place_at q table.entries) (place_if (is_key_of naming q element.now) place)) }
 {
-    Ok(with_name(
-        alloc,
-        table,
-        place,
-        name_in(naming, &element.kind),
-    )?)
+    Ok(with_name(alloc, table, place, name_in(naming, &element.kind))?)
 }
 
 /// The place of each name in lower case.

@@ -211,12 +211,7 @@ impl<'a> Scope<'a> {
 
     /// The type of the input of that name of the POU at a place.
     #[tactic(auto, using(crate::proofs::Named::pin_is))]
-    pub fn input_at(
-        &self,
-        alloc: Global,
-        place: u32,
-        name: &[u8],
-    ) -> Result<Option<Ty>, AllocError>
+    pub fn input_at(&self, alloc: Global, place: u32, name: &[u8]) -> Result<Option<Ty>, AllocError>
         ensures { IfOk result (λ t. t ≡ option_map (λ (p : BlockPin). p.ty) (pin_named name.now (block_pins_at Input self.now place))) }
     {
         let key = in_lower_case(alloc, name)?;

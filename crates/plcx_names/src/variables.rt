@@ -70,10 +70,7 @@ fn with_one(
 }
 
 /// The place of each name in lower case.
-fn places_of(
-    alloc: Global,
-    all: &[OwnVariable],
-) -> Result<IndexMap<Vec<u8>, usize>, AllocError>
+fn places_of(alloc: Global, all: &[OwnVariable]) -> Result<IndexMap<Vec<u8>, usize>, AllocError>
     ensures { IfOk result (λ table. VariablesTold all.now table.entries) }
 {
     let mut table = IndexMap::new(alloc);

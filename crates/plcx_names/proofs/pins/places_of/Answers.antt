@@ -1,4 +1,3 @@
-use Rattle.std.proofs.Common.{refl}
 use Rattle.plcx_names.specs.declared.pins.OwnPin.{OwnPin}
 use Rattle.plcx_names.specs.Seen.{is_pin, shown_pin}
 use Rattle.plcx_names.specs.Told.{place_at}

@@ -1,4 +1,4 @@
-use Rattle.std.proofs.Common.{refl, nat_eq}
+use Rattle.std.proofs.Common.{nat_eq}
 use Rattle.plcx_model.specs.declared.body.BodyElement.{BodyElement}
 use Rattle.plcx_names.specs.Told.{place_of_number}
 use Rattle.plcx_names.proofs.Firsts.{more, done}

@@ -1,4 +1,3 @@
-use Rattle.std.proofs.Common.{refl}
 use Rattle.plcx_names.specs.Seen.{is_block_key}
 use Rattle.plcx_names.specs.Told.{place_at}
 use Rattle.plcx_names.proofs.Firsts.{more, done}

@@ -1,4 +1,3 @@
-use Rattle.std.proofs.Common.{refl}
 use Rattle.plcx_names.specs.declared.variables.OwnVariable.{OwnVariable}
 use Rattle.plcx_names.specs.Seen.{is_declared, shown_variable}
 use Rattle.plcx_names.specs.Told.{place_at}
