@@ -1,15 +1,11 @@
 -- Each rule, where it is known what an element calls and holds, is the rule.
-use Rattle.std.proofs.Common.{◌≡◌, ℕ, ◌||◌, ◌&&◌, Bool, true, false, not, List, [], ◌∷◌, cond, take, nat_eq, is_some, is_none, map, Option, Some, None, option_map, option_and_then, slice_get, refl, sym, ap, ◌∙◌, if◌then◌else◌}
+use Rattle.std.proofs.Common.{◌≡◌, ℕ, ◌||◌, ◌&&◌, Bool, true, false, not, List, [], ◌∷◌, take, nat_eq, is_some, is_none, Option, Some, None, option_map, option_and_then, slice_get, refl, ap, if◌then◌else◌}
 use Rattle.std.specs.List.{list_any, filter}
-use Rattle.std.specs.Str.{bytes_eq}
 use Rattle.std.proofs.lemmas.Slice.Eq.{bytes_eq-Decides}
-use Rattle.std.proofs.lemmas.Bool.Decides.{nat_tests}
-use Rattle.std.proofs.Common.{arith}
 use Rattle.plcx_types.specs.Name.{in_lower_case}
 use Rattle.plcx_model.specs.Sound.{connections_of}
 use Rattle.plcx_model.specs.declared.body.Connection.{Connection}
 use Rattle.plcx_model.specs.declared.body.PinIn.{PinIn}
-use Rattle.plcx_model.specs.declared.body.PinOut.{PinOut}
 use Rattle.plcx_model.specs.declared.body.Kind.{Kind}
 use Rattle.plcx_model.specs.declared.body.Kind.TheVariants as kind
 use Rattle.plcx_model.specs.declared.body.BodyElement.{BodyElement}
@@ -20,20 +16,17 @@ use Rattle.plcx_rules.specs.declared.rule.LinkRule.{LinkRule}
 use Rattle.plcx_rules.specs.declared.rule.LinkRule.TheVariants as rule
 use Rattle.plcx_rules.specs.Texts.{same_name}
 use Rattle.plcx_rules.specs.Declarations.{Declaration, declaration_named}
-use Rattle.plcx_rules.specs.Callees.{callee_named, is_absent, present}
-use Rattle.plcx_rules.specs.Sources.{place_of_id, producer, source_of, connector_place, is_connector_named}
-use Rattle.plcx_rules.specs.LinkRules.{is_unconnected, has_one, lacks_source, has_no_callee, instance_suits, instance_fails, leads_to, breaks_instance, breaks_formals, breaks_expression, breaks_target, breaks_connector, breaks_label, breaks_modifiers, is_label_named, is_modified_in, lends, producer_is, any_lender, has_more, has_any, breaks}
-use Rattle.plcx_names.specs.Bodies.{label_place}
-use Rattle.plcx_names.specs.Seen.{summary, declared_as}
-use Rattle.plcx_link.specs.InProject.{InProject}
-use Rattle.plcx_link.specs.Bodies.{callee_in, holding_in, StandingIn, standing}
+use Rattle.plcx_rules.specs.Callees.{callee_named, is_absent}
+use Rattle.plcx_rules.specs.Sources.{place_of_id, connector_place, is_connector_named}
+use Rattle.plcx_rules.specs.LinkRules.{is_unconnected, has_one, lacks_source, has_no_callee, instance_suits, instance_fails, leads_to, breaks_instance, breaks_formals, breaks_expression, breaks_target, breaks_connector, breaks_label, breaks_modifiers, is_label_named, is_modified_in, lends, producer_is, any_lender, has_more, breaks}
+use Rattle.plcx_names.specs.Seen.{summary}
+use Rattle.plcx_link.specs.Bodies.{callee_in, holding_in, standing}
 use Rattle.plcx_link.specs.Outputs.{calls_function}
-use Rattle.plcx_link.specs.Faults.{pin_fails, stands_at, doubles_by, connector_by, label_by}
-use Rattle.plcx_link.specs.declared.references.PinFault.TheVariants as pin
+use Rattle.plcx_link.specs.Faults.{doubles_by, connector_by, label_by}
 use Rattle.plcx_link.specs.declared.expressions.LenderFault.{LenderFault}
 use Rattle.plcx_link.specs.declared.expressions.LenderFault.TheVariants as lender
-use Rattle.plcx_link.specs.Blocks.{lacks_by, no_callee_by, leads_by, named_by, suits_by, instance_by, formals_by}
-use Rattle.plcx_link.specs.Expressions.{expression_by, lends_by, is_modified_by, lender_fails, fails_at, connection_by, any_lender_by, target_by, pins_modified, modifiers_by}
+use Rattle.plcx_link.specs.Blocks.{lacks_by, no_callee_by, leads_by, suits_by, instance_by, formals_by}
+use Rattle.plcx_link.specs.Expressions.{expression_by, lends_by, is_modified_by, lender_fails, fails_at, any_lender_by, target_by, pins_modified, modifiers_by}
 use Rattle.plcx_link.specs.Breaking.{breaks_by, item_at}
 use Rattle.plcx_link.proofs.Standings.{function_is, first_of_all, none_of_all, same_number}
 
@@ -93,7 +86,6 @@ suits_is p (callee.Standard k) None = refl
 suits_is p (callee.Standard k) (Some name) = leads_is (callee.Standard k) (declaration_named p name)
 suits_is p (callee.Block place) None = refl
 suits_is p (callee.Block place) (Some name) = leads_is (callee.Block place) (declaration_named p name)
-
 
 instance_is : (pous : List Pou) (p : Pou) (k : Kind) → instance_by p (callee_in pous k) k ≡ breaks_instance pous p k
 unfolding callee_in breaks_instance

@@ -6,9 +6,8 @@ use Rattle.plcx_model.specs.declared.body.PinOut.{PinOut}
 use Rattle.plcx_model.specs.declared.project.ListClass.TheVariants.{InOut}
 use Rattle.plcx_model.specs.declared.project.Pou.{Pou}
 use Rattle.plcx_rules.specs.declared.callee.Callee.{Callee}
-use Rattle.plcx_rules.specs.declared.callee.Callee.TheVariants as callee
 use Rattle.plcx_rules.specs.Texts.{same_name}
-use Rattle.plcx_rules.specs.Callees.{BlockPin, Formal, fixed, block_pins, pins_where, present, input_count, input_formal, in_out_formal, output_formal, output_name, is_function, formal_named, in_outs_of}
+use Rattle.plcx_rules.specs.Callees.{BlockPin, Formal, fixed, block_pins, pins_where, present, input_count, input_formal, is_function, formal_named}
 use Rattle.plcx_rules.specs.LinkRules.{names_of, has_double, count_suits, is_listed, inputs_fail, in_outs_fail, outputs_fail}
 use Rattle.plcx_names.specs.declared.pins.OwnPin.{OwnPin}
 use Rattle.plcx_names.specs.Seen.{shown_pin}

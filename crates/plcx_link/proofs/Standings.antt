@@ -1,5 +1,5 @@
 -- What stands at a place of a body, and what is known of it.
-use Rattle.std.proofs.Common.{◌≡◌, ℕ, zero, suc, ◌+◌, ◌<◌, ◌||◌, Bool, true, false, not, List, [], ◌∷◌, cond, take, drop, length, nat_eq, is_some, is_none, map, Option, Some, None, option_map, option_and_then, slice_get, refl, sym, ap, ◌∙◌, arith}
+use Rattle.std.proofs.Common.{◌≡◌, ℕ, zero, suc, ◌+◌, ◌<◌, ◌||◌, Bool, true, false, not, List, [], ◌∷◌, cond, take, nat_eq, is_some, is_none, map, Option, Some, None, option_map, slice_get, refl, ap, ◌∙◌, arith}
 use Rattle.std.specs.List.{list_any, position_from}
 use Rattle.std.proofs.lemmas.Option.{slice_get-map}
 use Rattle.std.proofs.lemmas.Bool.Decides.{nat_tests}
@@ -11,7 +11,6 @@ use Rattle.plcx_model.specs.declared.body.Kind.{Kind}
 use Rattle.plcx_model.specs.declared.body.Kind.TheVariants as kind
 use Rattle.plcx_model.specs.declared.body.BodyElement.{BodyElement}
 use Rattle.plcx_model.specs.declared.project.Pou.{Pou}
-use Rattle.plcx_rules.specs.declared.callee.Callee.{Callee}
 use Rattle.plcx_rules.specs.declared.callee.Callee.TheVariants as callee
 use Rattle.plcx_rules.specs.Callees.{callee_named, names_function, function_or, standard_or, block_named}
 use Rattle.plcx_rules.specs.Sources.{output_place}

@@ -1,5 +1,5 @@
 -- Serves proofs: the rules on an element of which it is known what it calls and holds.
-use Rattle.std.specs.Prelude.{ℕ, Bool, false, not, ◌&&◌, List, Option, Some, None, if◌then◌else◌}
+use Rattle.std.specs.Prelude.{ℕ, Bool, not, ◌&&◌, List, Option, Some, None, if◌then◌else◌}
 use Rattle.std.specs.List.{list_any}
 use Rattle.plcx_model.specs.Sound.{connections_of}
 use Rattle.plcx_model.specs.declared.body.BodyElement.{BodyElement}

@@ -1,5 +1,5 @@
 -- The links of a project, or the first rule that it breaks.
-use Rattle.std.specs.Prelude.{◌≡◌, Option, Some, None}
+use Rattle.std.specs.Prelude.{◌≡◌, Some, None}
 use Rattle.plcx_model.specs.declared.broken.Broken.{Broken}
 use Rattle.plcx_model.specs.declared.broken.Place.{Place}
 use Rattle.plcx_model.specs.declared.plan.Links.{Links}

@@ -71,9 +71,7 @@ pub fn lacks_source(function: bool, kind: &Kind) -> bool
             inputs,
             in_outs,
             ..
-        } => {
-            (function && any_unconnected(inputs.as_slice())) || any_not_one(in_outs.as_slice())
-        }
+        } => { (function && any_unconnected(inputs.as_slice())) || any_not_one(in_outs.as_slice()) }
         Kind::Skipped
         | Kind::LeftRail
         | Kind::RightRail { .. }

@@ -23,10 +23,19 @@ pub struct Standing<'a> {
     pub resolved: Resolved,
 }
 
-fn joined<'a>(
-    element: Option<&'a BodyElement>,
-    resolved: Option<Resolved>,
-) -> Option<Standing<'a>>
+fn element_at(elements: &[BodyElement], place: usize) -> Option<&BodyElement>
+    ensures { option_map (λ e. e.now) result ≡ slice_get elements.now place }
+{
+    elements.get(place)
+}
+
+fn resolved_at(all: &[Resolved], place: usize) -> Option<Resolved>
+    ensures { result ≡ slice_get all.now place }
+{
+    all.get(place).copied()
+}
+
+fn joined<'a>(element: Option<&'a BodyElement>, resolved: Option<Resolved>) -> Option<Standing<'a>>
     ensures { option_map shown_standing result ≡ both (option_map (λ e. e.now) element.entry) resolved }
 {
     match (element, resolved) {
@@ -165,8 +174,8 @@ impl<'a> ScopedBody<'a> {
     pub fn standing(&self, place: usize) -> Option<Standing<'a>>
         ensures { option_map shown_standing result ≡ option_map (standing self.now.pous self.now.owner) (slice_get self.now.owner.body.elements place) }
     {
-        let element = self.elements().get(place);
-        let resolved = self.all.get(place).copied();
+        let element = element_at(self.elements(), place);
+        let resolved = resolved_at(&self.all, place);
         joined(element, resolved)
     }
 }

@@ -111,11 +111,7 @@ fn fails_at(body: &ScopedBody, fault: LenderFault, place: Option<usize>) -> bool
 fn connection_fails(body: &ScopedBody, fault: LenderFault, connection: &Connection) -> bool
     ensures { result ≡ connection_by body.now fault connection.now }
 {
-    fails_at(
-        body,
-        fault,
-        body.places().place_of_id(connection.element),
-    )
+    fails_at(body, fault, body.places().place_of_id(connection.element))
 }
 
 ghost use Rattle.plcx_link.specs.Expressions.{connection_by};
@@ -130,9 +126,7 @@ fn any_connection_fails(body: &ScopedBody, fault: LenderFault, pin: &[Connection
 fn any_lender_fails(body: &ScopedBody, fault: LenderFault, in_outs: &[PinIn]) -> bool
     ensures { result ≡ any_lender_by body.now fault in_outs.now }
 {
-    in_outs
-        .iter()
-        .any(|pin| any_connection_fails(body, fault, pin.input.as_slice()))
+    in_outs.iter().any(|pin| any_connection_fails(body, fault, pin.input.as_slice()))
 }
 
 /// Whether a target can't be written, or an in-out has no variable that can be.

@@ -236,8 +236,7 @@ fn in_outs_fail(
     ensures { IfOk result (λ b. b ≡ in_outs_fail scope.now callee in_outs.now) }
 {
     let names = names_of(alloc, in_outs)?;
-    Ok(side_fails(alloc, scope, callee, Side::InOuts, &names)?
-        || missing(scope, callee, in_outs))
+    Ok(side_fails(alloc, scope, callee, Side::InOuts, &names)? || missing(scope, callee, in_outs))
 }
 
 fn is_function(callee: Callee) -> bool
@@ -269,9 +268,11 @@ fn any_side_fails(
 ) -> Result<bool, AllocError>
     ensures { IfOk result (λ b. b ≡ formals_fail scope.now (Some callee) inputs.now in_outs.now outputs.now) }
 {
-    Ok(inputs_fail(alloc, scope, callee, inputs)?
-        || in_outs_fail(alloc, scope, callee, in_outs)?
-        || outputs_fail(alloc, scope, callee, outputs)?)
+    Ok(
+        inputs_fail(alloc, scope, callee, inputs)?
+            || in_outs_fail(alloc, scope, callee, in_outs)?
+            || outputs_fail(alloc, scope, callee, outputs)?,
+    )
 }
 
 /// Whether a formal parameter of a block is unknown, doubled or missing.

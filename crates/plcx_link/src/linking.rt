@@ -29,11 +29,7 @@ fn bodies_of<'b>(
 }
 
 /// A broken rule, with a copy of the POU's name.
-fn broken_at(
-    alloc: Global,
-    rule: LinkRule,
-    place: &ElementPlace,
-) -> Result<Broken, NoMemory>
+fn broken_at(alloc: Global, rule: LinkRule, place: &ElementPlace) -> Result<Broken, NoMemory>
     ensures { IfOk result (λ b. b ≡ broken_at rule (shown_place place.now)) }
 {
     let pou = place.pou.copy(alloc)?;

@@ -60,12 +60,7 @@ fn any_listed(body: &ScopedBody, fault: PinFault, pins: &[PinIn]) -> bool
 }
 
 #[tactic(auto, using(crate::proofs::PinLists::any_listed))]
-fn any_of_block(
-    body: &ScopedBody,
-    fault: PinFault,
-    inputs: &[PinIn],
-    in_outs: &[PinIn],
-) -> bool
+fn any_of_block(body: &ScopedBody, fault: PinFault, inputs: &[PinIn], in_outs: &[PinIn]) -> bool
     ensures { result ≡ list_any (pin_fails body.now.owner.body.elements fault) (listed_pins inputs.now in_outs.now) }
 {
     any_listed(body, fault, inputs) || any_listed(body, fault, in_outs)

@@ -120,19 +120,11 @@ fn output_at(body: &ScopedBody, place: usize, name: &[u8]) -> Option<usize>
 {
     match body.standing(place) {
         None => None,
-        Some(one) => output_place(
-            calls_function(one.resolved.callee),
-            &one.element.kind,
-            name,
-        ),
+        Some(one) => output_place(calls_function(one.resolved.callee), &one.element.kind, name),
     }
 }
 
-fn source_at(
-    body: &ScopedBody,
-    name: &[u8],
-    place: usize,
-) -> Result<Option<Source>, AllocError>
+fn source_at(body: &ScopedBody, name: &[u8], place: usize) -> Result<Option<Source>, AllocError>
     ensures { IfOk result (λ source. source ≡ source_at body.now.owner.body.elements name.now place) }
 {
     match output_at(body, place, name) {
@@ -186,11 +178,7 @@ fn sources_at(
 }
 
 /// The source of a continuation.
-fn continued(
-    alloc: Global,
-    body: &ScopedBody,
-    name: &[u8],
-) -> Result<Items<Source>, AllocError>
+fn continued(alloc: Global, body: &ScopedBody, name: &[u8]) -> Result<Items<Source>, AllocError>
     ensures { IfOk result (λ sources. sources ≡ continued body.now.owner.body.elements name.now) }
 {
     let mut sources = Items::new(alloc);

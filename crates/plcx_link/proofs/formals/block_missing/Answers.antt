@@ -1,4 +1,4 @@
-use Rattle.std.proofs.Common.{◌∙◌, sym}
+use Rattle.std.proofs.Common.{◌∙◌}
 use Rattle.plcx_link.proofs.SideNames.{missing_is, none_missing}
 use Rattle.plcx_link.proofs.formals.block_missing.Goals as goal
 

@@ -1,4 +1,4 @@
-use Rattle.std.proofs.Common.{◌≡◌, ℕ, length}
+use Rattle.std.proofs.Common.{◌≡◌, ℕ}
 use Rattle.plcx_link.specs.Judged.{first_from}
 use Rattle.plcx_link.proofs.judging.first_in_body.Given as goal
 

@@ -1,4 +1,4 @@
-use Rattle.std.proofs.Common.{◌∙◌, ℕ, List, Some, sym, ap}
+use Rattle.std.proofs.Common.{◌∙◌, Some, sym, ap}
 use Rattle.plcx_model.specs.declared.broken.Place.TheVariants.{Element}
 use Rattle.plcx_model.specs.declared.project.Pou.{Pou}
 use Rattle.plcx_link.proofs.Judgings.{a_place}

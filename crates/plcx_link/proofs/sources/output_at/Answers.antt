@@ -1,4 +1,4 @@
-use Rattle.std.proofs.Common.{◌∙◌, sym}
+use Rattle.std.proofs.Common.{◌∙◌}
 use Rattle.plcx_link.specs.Bodies.{shown_standing}
 use Rattle.plcx_link.proofs.Standings.{output_there, none_there}
 use Rattle.plcx_link.proofs.sources.output_at.Goals as goal
