@@ -1,5 +1,5 @@
 -- What an element may be by what it holds.
-use Rattle.std.specs.Prelude.{ℕ, Bool, true, false, List, Option, Some, None, is_some}
+use Rattle.std.specs.Prelude.{ℕ, true, false, List, Option, Some, None, is_some}
 use Rattle.plcx_model.specs.declared.project.Pou.{Pou}
 use Rattle.plcx_rules.specs.Helds.{text_held, is_value, is_operand, is_target}
 use Rattle.plcx_rules.specs.Helds as rules
