@@ -17,7 +17,7 @@ fn fault_of(alloc: Global, file: &[u8]) -> (u8, u64) {
     }
 }
 
-fn root_of(alloc: Global, file: &[u8]) -> Result<Element, Fail> {
+fn root_of(alloc: Global, file: &[u8]) -> Result<Element<'_>, Fail> {
     match read_tree(alloc, file) {
         Ok(Node::Element(root)) => Ok(root),
         _ => Err(Fail::from("the file has no tree")),

@@ -14,7 +14,7 @@ use std::alloc::{AllocError, Global};
 #[derive(Clone, Copy)]
 pub struct Looked<'a> {
     pub fate: Fate,
-    pub element: &'a Element,
+    pub element: &'a Element<'a>,
 }
 
 /// An element and what is looked at below it, behind what is found so far.
@@ -24,7 +24,7 @@ fn walk<'a>(
     mut found: Vec<Looked<'a>>,
     depth: u64,
     fate: Fate,
-    element: &'a Element,
+    element: &'a Element<'a>,
 ) -> Result<Vec<Looked<'a>>, AllocError>
     ensures { IfOk result (λ all. map shown_item all.items ≡ map shown_item found.entry.items ++ items depth fate element.now) }
 {
@@ -40,7 +40,7 @@ fn walk_beyond<'a>(
     found: Vec<Looked<'a>>,
     depth: u64,
     fate: Fate,
-    element: &'a Element,
+    element: &'a Element<'a>,
 ) -> Result<Vec<Looked<'a>>, AllocError>
     ensures { IfOk result (λ all. map shown_item all.items ≡ map shown_item found.entry.items ++ below (items depth) fate element.now) }
 {
@@ -56,7 +56,7 @@ fn walk_below<'a>(
     mut found: Vec<Looked<'a>>,
     depth: u64,
     row: Row,
-    nodes: &'a [Node],
+    nodes: &'a [Node<'a>],
 ) -> Result<Vec<Looked<'a>>, AllocError>
     ensures { IfOk result (λ all. map shown_item all.items ≡ map shown_item found.entry.items ++ items_below (items depth) row none_taken nodes.now) }
 {
@@ -90,7 +90,7 @@ fn root_fate(root: &Element) -> Fate
 
 /// All that is looked at in a file, in document order.
 #[tactic(auto, unfolding(crate::specs::Format::looked_at))]
-pub fn looked_at(alloc: Global, root: &Element) -> Result<Vec<Looked<'_>>, AllocError>
+pub fn looked_at<'a>(alloc: Global, root: &'a Element<'a>) -> Result<Vec<Looked<'a>>, AllocError>
     ensures { IfOk result (λ all. map shown_item all.items ≡ looked_at root.now) }
 {
     Ok(walk(Vec::new(alloc), DEPTH, root_fate(root), root)?)

@@ -1,3 +1,4 @@
+pub mod Held
 pub mod Look
 pub mod Character
 pub mod Reference
