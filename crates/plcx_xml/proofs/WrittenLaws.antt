@@ -133,7 +133,7 @@ no_and xs h = subst (λ (ys : List ℕ). list_all is_plain ys ≡ true) (ap (λ 
 
 as_it_is : (xs : List ℕ) → prefix_len is_plain xs ≡ length xs → SpellsValue xs xs
 as_it_is [] h = ([], refl, refl)
-as_it_is (x ∷ xs) h = ((x ∷ xs) ∷ [], sym (append-nil (x ∷ xs)), (x ∷ xs), [], sym (append-nil (x ∷ xs)), Plain refl (omega arith) (no_and (x ∷ xs) h) tt, refl)
+as_it_is (x ∷ xs) h = ((x ∷ xs) ∷ [], sym (append-nil (x ∷ xs)), ((x ∷ xs), [], sym (append-nil (x ∷ xs)), Plain refl (omega arith) (no_and (x ∷ xs) h) tt, refl))
 
 -- a value without `&` is written as it is
 pub plain_written : (written : List ℕ) → prefix_len is_plain written ≡ length written → value_of written ≡ Some written
