@@ -71,7 +71,7 @@ pub fn first_part<P: Part>(alloc: Global, element: &Element) -> Result<Option<P>
     Ok(None)
 }
 
-fn child_named<'a>(node: &'a Node<'a>, name: &str) -> Option<&'a Element<'a>>
+fn child_named<'a, 'f>(node: &'a Node<'f>, name: &str) -> Option<&'a Element<'f>>
     ensures { option_copied result ≡ part_in (named name.now) (out-Node node.now) }
 {
     match node {
@@ -88,7 +88,7 @@ fn child_named<'a>(node: &'a Node<'a>, name: &str) -> Option<&'a Element<'a>>
 
 /// The first child of a name.
 #[tactic(auto, unfolding(crate::specs::Parts::first_child, crate::specs::Parts::first_part, crate::specs::Parts::parts_of))]
-pub fn first_child<'a>(element: &'a Element<'a>, name: &str) -> Option<&'a Element<'a>>
+pub fn first_child<'a, 'f>(element: &'a Element<'f>, name: &str) -> Option<&'a Element<'f>>
     ensures { option_copied result ≡ first_child name.now element.now }
 {
     for node in element.children() {
