@@ -1,1 +1,4 @@
 pub mod Computing
+pub mod Lists
+mod Graphs
+mod Computed

@@ -6,6 +6,8 @@ pub mod Helds
 pub mod Sources
 pub mod Items
 pub mod LinkRules
+-- What is said of the definitions alone.
+pub mod Laws
 -- Worked examples.
 pub mod Pieces
 pub mod LinkExamples

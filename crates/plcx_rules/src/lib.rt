@@ -7,6 +7,7 @@
 
 mod callee;
 mod examples;
+mod law;
 mod rule;
 
 pub use callee::Callee;
@@ -14,4 +15,5 @@ pub use examples::{
     examples_of_blocks, examples_of_connections, examples_of_expressions, examples_of_formals,
     examples_of_modifiers, examples_of_names, examples_of_references,
 };
+pub use law::{bodies_have_graphs, link_verdict_computes};
 pub use rule::LinkRule;
