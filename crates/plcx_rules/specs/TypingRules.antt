@@ -1,5 +1,5 @@
--- Rules 34 to 36, on an element of a body.
-use Rattle.std.specs.Prelude.{◌≡◌, ◌≢◌, ℕ, ℤ, ◌<◌, ◌≤◌, Bool, true, false, Option, Some, length}
+-- Rules 34 to 36, on an element of a body, and the verdict over them.
+use Rattle.std.specs.Prelude.{◌≡◌, ◌≢◌, ℕ, ℤ, ◌≤◌, true, false, List, [], ◌∷◌, Option, Some, length}
 use Rattle.std.specs.List.{Contains}
 use Rattle.plcx_types.specs.declared.ty.Ty.{Ty}
 use Rattle.plcx_types.specs.declared.ty.Ty.TheVariants as ty
@@ -7,7 +7,15 @@ use Rattle.plcx_types.specs.Range.{InRange}
 use Rattle.plcx_funcs.specs.declared.allowed.Allowed.{Allowed}
 use Rattle.plcx_funcs.specs.Types.{is_allowed, is_whole}
 use Rattle.plcx_funcs.specs.declared.pins.Class.TheVariants as class
+use Rattle.plcx_model.specs.declared.broken.Place.{Place}
+use Rattle.plcx_model.specs.declared.project.Pou.{Pou}
+use Rattle.plcx_model.specs.declared.project.Project.{Project}
 use Rattle.plcx_model.specs.declared.source.Source.{Source}
+use Rattle.plcx_model.specs.Verdict.{Verdict}
+use Rattle.plcx_rules.specs.declared.form.TypeRule.{TypeRule}
+use Rattle.plcx_rules.specs.declared.form.TypeRule.TheVariants.{NoType, Disagreement, Range}
+use Rattle.plcx_rules.specs.Items.{Item, items_of, place_of}
+use Rattle.plcx_rules.specs.Forms.{sheet_at}
 use Rattle.plcx_rules.specs.declared.form.Gives.TheVariants.{Untyped}
 use Rattle.plcx_rules.specs.declared.form.Grouping.TheVariants.{Apart, Function}
 use Rattle.plcx_rules.specs.Types.{Sheet, form_at, pin_at, sources_at, output_at, gives_at, is_untyped, IsPinOf, AtPin, AtGroup, AtOutput, HasType, Takes}
@@ -47,3 +55,31 @@ pub record IsOutside (s : Sheet) (e : ℕ) : Type 0 where
   pub taken : Ty
   pub takes : Takes s e taken
   pub outside : InRange taken number → ⊥
+
+-- whether the element at a place breaks a rule
+abbrev pub BreaksIn : TypeRule → Sheet → ℕ → Type 0
+BreaksIn NoType s e = HasNoType s e
+BreaksIn Disagreement s e = Disagrees s e
+BreaksIn Range s e = IsOutside s e
+
+-- an element breaks a rule, whatever items stand before
+abbrev pub BreaksTyping : List Pou → List (List (List Source)) → TypeRule → List Item → Item → Type 0
+BreaksTyping pous links r before x = BreaksIn r (sheet_at pous links x.pou x.owner) x.place
+
+-- the rules, as they are tested
+abbrev pub type_rules : List TypeRule
+type_rules = NoType ∷ Disagreement ∷ Range ∷ []
+
+-- the number of a rule
+abbrev pub type_rule_number : TypeRule → ℕ
+type_rule_number NoType = 34
+type_rule_number Disagreement = 35
+type_rule_number Range = 36
+
+-- each rule is broken at the element
+abbrev pub type_place : TypeRule → Item → Place
+type_place r x = place_of x
+
+-- the first rule from 34 to 36 that a project with these links breaks, and the element that breaks it first
+abbrev pub TypingVerdict : Project → List (List (List Source)) → Option (TypeRule × Place) → Type 0
+TypingVerdict project links v = Verdict (BreaksTyping project.pous links) type_place (items_of project.pous) type_rules v

@@ -1,5 +1,8 @@
 //! The form of a body, which its types go by: where the type of each input pin, of each output and of each wire comes
-//! from.
+//! from. And the rules on types.
+ghost use Rattle.std.specs.Prelude.{◌≡◌};
+ghost use Rattle.plcx_rules.specs.TypingRules.{type_rule_number};
+
 use plcx_funcs::{Allowed, Class};
 use plcx_types::Ty;
 use sqlite_items::Items;
@@ -66,4 +69,28 @@ pub struct Form {
 pub struct WireForm {
     pub element: u32,
     pub gives: Gives,
+}
+
+/// A rule from 34 to 36, in the order in which they are tested.
+#[derive(Clone, Copy, Debug, PartialEq, Eq)]
+pub enum TypeRule {
+    /// No type can be derived.
+    NoType,
+    /// Two types disagree.
+    Disagreement,
+    /// An untyped literal is outside a type that it takes.
+    Range,
+}
+
+impl TypeRule {
+    /// Its number.
+    pub fn number(self) -> u8
+        ensures { result ≡ type_rule_number self }
+    {
+        match self {
+            TypeRule::NoType => 34,
+            TypeRule::Disagreement => 35,
+            TypeRule::Range => 36,
+        }
+    }
 }
