@@ -1,0 +1,11 @@
+-- What the rules 20 to 36 mean, and the words that they are said in.
+pub mod Texts
+pub mod Declarations
+pub mod Callees
+pub mod Helds
+pub mod Sources
+pub mod Items
+pub mod LinkRules
+pub mod Types
+pub mod Forms
+pub mod TypingRules

@@ -1,0 +1,16 @@
+//! What the rules from 20 on mean: definitions over a project, and the laws that hold of them.
+//!
+//! `Items` are what is judged, an element of a body each; `LinkRules` has a predicate for each rule from 20 to 33 and
+//! the verdict over them. They are said in the words of `Declarations` (what a name leads to), `Callees` (what a block
+//! calls, and which pins it has), `Helds` (what an expression holds) and `Sources` (the sources of each input pin).
+//! `Types` is the closure that says which types the pins, groups and outputs of a body have, `Forms` what it goes by,
+//! and `TypingRules` has the rules 34 to 36.
+#![tactic(auto)]
+
+mod callee;
+mod form;
+mod rule;
+
+pub use callee::Callee;
+pub use form::{Form, Gives, Grouping, Out, Outputs, Pin, TypeRule, WireForm};
+pub use rule::LinkRule;
