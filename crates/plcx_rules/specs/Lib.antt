@@ -9,3 +9,7 @@ pub mod LinkRules
 pub mod Types
 pub mod Forms
 pub mod TypingRules
+pub mod CheckVerdict
+-- Worked examples.
+pub mod Pieces
+pub mod LinkExamples
