@@ -1,5 +1,5 @@
 -- A project has one verdict of the rules 20 to 36.
-use Rattle.std.proofs.Common.{◌≡◌, ℕ, Option, Some, None, refl, ap, ap₂}
+use Rattle.std.proofs.Common.{◌≡◌, ℕ, Option, Some, None, refl, ap}
 use Rattle.plcx_model.proofs.OneVerdict.{one-verdict}
 use Rattle.plcx_model.specs.declared.broken.Broken.{Broken}
 use Rattle.plcx_model.specs.declared.broken.Place.{Place}
@@ -22,19 +22,19 @@ some-same : {A : Type 0} (x y : A) → Some x ≡ Some y → x ≡ y
 some-same x y h = cc
 
 -- one rule and place, told by the rule's number
-same-broken : {R : Type 0} (number_of : R → ℕ) (r s : R) (p q : Place) → Some (r, p) ≡ Some (s, q) → Some (broken_at (number_of r) p) ≡ Some (broken_at (number_of s) q)
-same-broken {R} number_of r s p q h = ap (λ (x : R × Place). Some (broken_at (number_of x.0) x.1)) (some-same (r, p) (s, q) h)
+abbrev told : {R : Type 0} → (R → ℕ) → R × Place → Option Broken
+told number_of x = Some (broken_at (number_of x.0) x.1)
 
 no-pair : {A : Type 0} (x : A) → Some x ≡ None → ⊥
 no-pair x h = cc
 
 pub one-check : (project : Project) (v w : Option Broken) → CheckVerdict project v → CheckVerdict project w → v ≡ w
-one-check project _ _ (InLinks {r} {p} h) (InLinks {s} {q} k) = same-broken number r s p q (one-link project _ _ h k)
-one-check project _ _ (InLinks {r} {p} h) (InTypes k types) = absurd (no-pair (r, p) (one-link project _ _ h k))
-one-check project _ _ (InLinks {r} {p} h) (Unbroken k types) = absurd (no-pair (r, p) (one-link project _ _ h k))
-one-check project _ _ (InTypes h types) (InLinks {r} {p} k) = absurd (no-pair (r, p) (one-link project _ _ k h))
-one-check project _ _ (Unbroken h types) (InLinks {r} {p} k) = absurd (no-pair (r, p) (one-link project _ _ k h))
-one-check project _ _ (InTypes {r} {p} h types) (InTypes {s} {q} k others) = same-broken type_rule_number r s p q (one-typing project _ _ types others)
-one-check project _ _ (InTypes {r} {p} h types) (Unbroken k others) = absurd (no-pair (r, p) (one-typing project _ _ types others))
-one-check project _ _ (Unbroken h types) (InTypes {r} {p} k others) = absurd (no-pair (r, p) (one-typing project _ _ others types))
+one-check project _ _ (InLinks h) (InLinks k) = ap (told number) (some-same _ _ (one-link project _ _ h k))
+one-check project _ _ (InLinks h) (InTypes k types) = absurd (no-pair _ (one-link project _ _ h k))
+one-check project _ _ (InLinks h) (Unbroken k types) = absurd (no-pair _ (one-link project _ _ h k))
+one-check project _ _ (InTypes h types) (InLinks k) = absurd (no-pair _ (one-link project _ _ k h))
+one-check project _ _ (Unbroken h types) (InLinks k) = absurd (no-pair _ (one-link project _ _ k h))
+one-check project _ _ (InTypes h types) (InTypes k others) = ap (told type_rule_number) (some-same _ _ (one-typing project _ _ types others))
+one-check project _ _ (InTypes h types) (Unbroken k others) = absurd (no-pair _ (one-typing project _ _ types others))
+one-check project _ _ (Unbroken h types) (InTypes k others) = absurd (no-pair _ (one-typing project _ _ others types))
 one-check project _ _ (Unbroken h types) (Unbroken k others) = refl
