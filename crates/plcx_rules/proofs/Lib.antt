@@ -2,3 +2,4 @@ pub mod Computing
 pub mod Lists
 mod Graphs
 mod Computed
+pub mod OneCheck

@@ -1,11 +1,18 @@
 //! What holds of the definitions, each on a function of its own.
-ghost use Rattle.std.specs.Prelude.{None, List};
+ghost use Rattle.std.specs.Prelude.{◌≡◌, Option, None, List};
 ghost use Rattle.plcx_types.specs.Lists.{Each};
+ghost use Rattle.plcx_model.specs.declared.broken.Broken.{Broken};
 ghost use Rattle.plcx_model.specs.declared.project.Pou.{Pou};
 ghost use Rattle.plcx_model.specs.declared.project.Project.{Project};
 ghost use Rattle.plcx_model.specs.Sound.{Sound};
+ghost use Rattle.plcx_rules.specs.CheckVerdict.{CheckVerdict};
 ghost use Rattle.plcx_rules.specs.LinkRules.{LinkVerdict, link_answer};
 ghost use Rattle.plcx_rules.specs.Laws.{HaveGraphs, AreSources};
+
+/// A project has one verdict of the rules 20 to 36.
+pub fn one_check_verdict()
+    ensures { (project : Project) (v w : Option Broken) → CheckVerdict project v → CheckVerdict project w → v ≡ w }
+{}
 
 /// `link_answer` computes the verdict on the rules from 20 to 33.
 pub fn link_verdict_computes()

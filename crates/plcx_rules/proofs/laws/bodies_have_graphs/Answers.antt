@@ -1,5 +1,5 @@
 use Rattle.plcx_rules.proofs.Graphs.{have_graphs, have_sources}
-use Rattle.plcx_rules.proofs.law.bodies_have_graphs.Goals as goal
+use Rattle.plcx_rules.proofs.laws.bodies_have_graphs.Goals as goal
 
 pub returns-clause-graphs : goal.returns-clause-graphs
 returns-clause-graphs c = have_graphs
