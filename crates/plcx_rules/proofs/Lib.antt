@@ -1,5 +1,6 @@
 pub mod Computing
 pub mod Lists
-mod Graphs
+pub mod Graphs
 mod Computed
+pub mod Missing
 pub mod OneCheck

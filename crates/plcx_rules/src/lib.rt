@@ -19,5 +19,5 @@ pub use examples::{
     examples_of_modifiers, examples_of_names, examples_of_references,
 };
 pub use form::{Form, Gives, Grouping, Out, Outputs, Pin, TypeRule, WireForm};
-pub use laws::{bodies_have_graphs, link_verdict_computes, one_check_verdict};
+pub use laws::{bodies_have_graphs, link_verdict_computes, no_input_is_missing, one_check_verdict};
 pub use rule::LinkRule;
