@@ -19,5 +19,8 @@ pub use examples::{
     examples_of_modifiers, examples_of_names, examples_of_references,
 };
 pub use form::{Form, Gives, Grouping, Out, Outputs, Pin, TypeRule, WireForm};
-pub use laws::{bodies_have_graphs, link_verdict_computes, no_input_is_missing, one_check_verdict};
+pub use laws::{
+    bodies_have_graphs, link_verdict_computes, no_element_breaks_a_rule, no_input_is_missing,
+    one_check_verdict, sources_are_outputs,
+};
 pub use rule::LinkRule;
