@@ -3,6 +3,8 @@ use Rattle.std.specs.Prelude.{true, false, List, [], ◌∷◌, ◌++◌, Some, 
 use Rattle.plcx_model.specs.declared.body.Kind.TheVariants as kind
 use Rattle.plcx_model.specs.declared.project.PouKind.TheVariants.{Program, FunctionBlock}
 use Rattle.plcx_model.specs.declared.project.Pou.{Pou}
+use Rattle.plcx_model.specs.declared.source.Source.{Source}
+use Rattle.plcx_rules.specs.Sources.{source}
 use Rattle.plcx_rules.specs.Pieces.{pou, inc, main_lists, functions, ladder, negated, rising, set, element, to, to_output, reads, writes, contact, pin, output, block, function, timer, call}
 
 -- ---- references and outputs
@@ -505,3 +507,31 @@ rails_before_modifiers = functions (reads 1 (codes "A") ∷ element 2 (kind.Righ
 -- the rule that is tested first is told, though another is broken before it
 abbrev pub later_pou_first : List Pou
 later_pou_first = functions (writes 2 (codes "B") (to (9 ∷ [])) ∷ []) ++ pou Program (codes "Next") main_lists false (reads 7 (codes "A") ∷ reads 7 (codes "A") ∷ []) ∷ []
+
+-- ---- sources
+
+-- a ladder with an unconnected EN, an in-out behind an input, a continuation, two sources at a pin, and a named output
+abbrev pub wired : List Pou
+wired = ladder (
+    reads 1 (codes "A")
+    ∷ element 2 (kind.Connector (codes "W") (to (1 ∷ [])))
+    ∷ element 3 (kind.Continuation (codes "w"))
+    ∷ block 4 (codes "Inc") (Some (codes "K")) (pin (codes "EN") [] ∷ pin (codes "D") (to (5 ∷ [])) ∷ []) (pin (codes "V") (to (5 ∷ [])) ∷ []) []
+    ∷ reads 5 (codes "N")
+    ∷ timer 6 (pin (codes "IN") (to (1 ∷ 3 ∷ [])) ∷ []) (output (codes "Q") ∷ output (codes "ET") ∷ [])
+    ∷ writes 7 (codes "B") (to_output 6 (codes "et"))
+    ∷ [])
+
+-- the sources of each input pin: of the connector, the continuation, EN, D, V, IN and the outVariable
+abbrev pub wired_sources : List (List (List Source))
+wired_sources = (
+    (source 0 0 ∷ []) ∷ (source 1 0 ∷ []) ∷ [] ∷ (source 4 0 ∷ []) ∷ (source 4 0 ∷ []) ∷ (source 0 0 ∷ source 2 0 ∷ []) ∷ (source 5 1 ∷ []) ∷ [])
+    ∷ [] ∷ []
+
+-- connections to nothing have no source, and a continuation without its connector has none either
+abbrev pub loose : List Pou
+loose = functions (element 1 (kind.Continuation (codes "W")) ∷ writes 2 (codes "B") (to (9 ∷ 2 ∷ 1 ∷ [])) ∷ [])
+
+-- the continuation alone is one
+abbrev pub loose_sources : List (List (List Source))
+loose_sources = ([] ∷ (source 0 0 ∷ []) ∷ []) ∷ [] ∷ []

@@ -16,7 +16,7 @@ mod rule;
 pub use callee::Callee;
 pub use examples::{
     examples_of_blocks, examples_of_connections, examples_of_expressions, examples_of_formals,
-    examples_of_modifiers, examples_of_names, examples_of_references,
+    examples_of_modifiers, examples_of_names, examples_of_references, examples_of_sources,
 };
 pub use form::{Form, Gives, Grouping, Out, Outputs, Pin, TypeRule, WireForm};
 pub use laws::{
