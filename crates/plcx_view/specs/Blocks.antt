@@ -1,5 +1,5 @@
 -- Blocks: functions and calls of instances.
-use Rattle.std.specs.Prelude.{ℕ, Bool, true, false, not, ◌&&◌, List, [], ◌∷◌, Option, Some, None, map, filter, length, slice_get}
+use Rattle.std.specs.Prelude.{ℕ, Bool, false, not, ◌&&◌, List, [], ◌∷◌, Option, Some, None, map, filter, length, slice_get}
 use Rattle.std.specs.List.{find, filter_map, range_with_len}
 use Rattle.std.specs.Option.{option_map, unwrap_or}
 use Rattle.plcx_types.specs.declared.ty.Ty.{Ty}
@@ -13,9 +13,11 @@ use Rattle.plcx_model.specs.declared.body.PinOut.{PinOut}
 use Rattle.plcx_model.specs.declared.body.Kind.TheVariants as kind
 use Rattle.plcx_model.specs.declared.body.BodyElement.{BodyElement}
 use Rattle.plcx_model.specs.declared.project.Pou.{Pou}
+use Rattle.plcx_rules.specs.declared.callee.Callee.{Callee}
+use Rattle.plcx_rules.specs.declared.callee.Callee.TheVariants as callee
 use Rattle.plcx_rules.specs.Texts.{same_name}
 use Rattle.plcx_rules.specs.Declarations.{Declaration, declaration_named}
-use Rattle.plcx_rules.specs.Callees.{Callee, OfFunction, OfStandard, OfBlock, Formal, inputs_of, in_outs_of, formal_named, function_input, output_formal, is_enable, is_eno}
+use Rattle.plcx_rules.specs.Callees.{Formal, function_input, input_formal, in_out_formal, output_formal, is_enable, is_connected, is_eno}
 use Rattle.plcx_view.specs.Pins.{Feed, Pin}
 use Rattle.plcx_view.specs.Operands.{target_of}
 use Rattle.plcx_view.specs.Links.{declared_name, link_of}
@@ -24,34 +26,30 @@ use Rattle.plcx_view.specs.Links.{declared_name, link_of}
 abbrev pub Wired : Type 0
 Wired = PinIn × Pin
 
--- it has a source
-abbrev pub is_fed : List Feed → Bool
-is_fed [] = false
-is_fed (feed ∷ feeds) = true
-
-abbrev pub is_connected : Wired → Bool
-is_connected w = is_fed w.1.feeds
-
--- it is EN
-abbrev pub is_en : Wired → Bool
-is_en w = is_enable w.0
-
 -- what stands at it
 abbrev pub wired_link : List Pou → Pou → Wired → Link
 wired_link pous p w = link_of pous p w.0.mods.negated w.1
 
--- the listed inputs beside EN
-abbrev pub inputs_beside : List Wired → List Wired
-inputs_beside inputs = filter (λ (w : Wired). not (is_en w)) inputs
+-- EN where it is connected
+abbrev pub enables : PinIn → Bool
+enables i = is_enable i && is_connected i
+
+-- a connected input beside EN
+abbrev pub is_taken : PinIn → Bool
+is_taken i = not (is_enable i) && is_connected i
+
+-- those of some inputs that are so
+abbrev pub among : (PinIn → Bool) → List Wired → List Wired
+among is inputs = filter (λ (w : Wired). is w.0) inputs
 
 -- the listed outputs beside ENO
-abbrev pub outputs_beside : List PinOut → List PinOut
-outputs_beside outputs = filter (λ (o : PinOut). not (is_eno o)) outputs
+abbrev pub beside : List PinOut → List PinOut
+beside outputs = filter (λ (o : PinOut). not (is_eno o)) outputs
 
 -- EN where it is connected, and ENO where it is listed
 abbrev pub enable_of : List Pou → Pou → List Wired → List PinOut → Enable
 enable_of pous p inputs outputs = record {
-  en = option_map (wired_link pous p) (find (λ (w : Wired). is_en w && is_connected w) inputs);
+  en = option_map (wired_link pous p) (find (λ (w : Wired). enables w.0) inputs);
   eno = option_map (λ (o : PinOut). o.mods.negated) (find is_eno outputs);
 }
 
@@ -81,8 +79,8 @@ function_by f enable links negated = Function f (group_by f links) enable links 
 -- ---- calls
 
 -- an input of an instance
-abbrev pub input_pin : List Pou → Pou → List Formal → Wired → InputPin
-input_pin pous p formals w = record { name = declared_name (formal_named w.0.formal formals); link = wired_link pous p w }
+abbrev pub input_pin : List Pou → Pou → Callee → List PinIn → Wired → InputPin
+input_pin pous p c listed w = record { name = declared_name (input_formal pous c listed w.0); link = wired_link pous p w }
 
 -- the variable of an inVariable
 abbrev pub lent_by : List Pou → Pou → Option BodyElement → List ℕ
@@ -95,8 +93,8 @@ lent_at pous p [] = []
 lent_at pous p (feed ∷ feeds) = lent_by pous p (slice_get p.body.elements feed.0.element)
 
 -- an in-out of an instance
-abbrev pub in_out_pin : List Pou → Pou → List Formal → Wired → InOutPin
-in_out_pin pous p formals w = record { name = declared_name (formal_named w.0.formal formals); variable = lent_at pous p w.1.feeds }
+abbrev pub in_out_pin : List Pou → Pou → Callee → Wired → InOutPin
+in_out_pin pous p c w = record { name = declared_name (in_out_formal pous c w.0); variable = lent_at pous p w.1.feeds }
 
 -- the type of a formal parameter where it is fixed, as it is at each pin of a function block
 abbrev pub fixed_type : Option Formal → Ty
@@ -104,10 +102,10 @@ fixed_type None = ty.Bool
 fixed_type (Some f) = elim f.class [ class.Fixed t ↦ t | class.Group ↦ ty.Bool | class.Lone ↦ ty.Bool ]
 
 -- a listed output of an instance
-abbrev pub output_pin : Callee → List PinOut → PinOut → OutputPin
-output_pin callee outputs o = record {
-  name = declared_name (output_formal callee outputs o);
-  ty = fixed_type (output_formal callee outputs o);
+abbrev pub output_pin : List Pou → Callee → List PinOut → PinOut → OutputPin
+output_pin pous c outputs o = record {
+  name = declared_name (output_formal pous c outputs o);
+  ty = fixed_type (output_formal pous c outputs o);
   negated = o.mods.negated;
 }
 
@@ -122,17 +120,17 @@ instance_of p None = []
 instance_of p (Some name) = variable_name (declaration_named p name)
 
 -- a call of an instance, with its connected inputs, its in-outs and its outputs, each in the listed order
-abbrev pub call_by : List Pou → Pou → Callee → Option (List ℕ) → (inputs in_outs : List Wired) → List PinOut → ElementKind
-call_by pous p callee instance inputs in_outs outputs = Call (instance_of p instance)
+abbrev pub call_by : List Pou → Pou → Callee → Option (List ℕ) → List PinIn → (inputs in_outs : List Wired) → List PinOut → ElementKind
+call_by pous p c instance listed inputs in_outs outputs = Call (instance_of p instance)
     (enable_of pous p inputs outputs)
-    (map (input_pin pous p (inputs_of callee 0)) (filter is_connected (inputs_beside inputs)))
-    (map (in_out_pin pous p (in_outs_of callee)) in_outs)
-    (map (output_pin callee outputs) (outputs_beside outputs))
+    (map (input_pin pous p c listed) (among is_taken inputs))
+    (map (in_out_pin pous p c) in_outs)
+    (map (output_pin pous c outputs) (beside outputs))
 
--- a block by what it calls
-abbrev pub block_by : List Pou → Pou → Option Callee → Option (List ℕ) → (inputs in_outs : List Wired) → List PinOut → ElementKind
-block_by pous p None instance inputs in_outs outputs = Still
-block_by pous p (Some (OfFunction f)) instance inputs in_outs outputs =
-    function_by f (enable_of pous p inputs outputs) (function_links pous p f (inputs_beside inputs)) (is_negated (outputs_beside outputs))
-block_by pous p (Some (OfStandard k)) instance inputs in_outs outputs = call_by pous p (OfStandard k) instance inputs in_outs outputs
-block_by pous p (Some (OfBlock place q)) instance inputs in_outs outputs = call_by pous p (OfBlock place q) instance inputs in_outs outputs
+-- a block by what it calls, with its listed inputs, and those and its in-outs with their types and sources
+abbrev pub block_by : List Pou → Pou → Option Callee → Option (List ℕ) → List PinIn → (inputs in_outs : List Wired) → List PinOut → ElementKind
+block_by pous p None instance listed inputs in_outs outputs = Still
+block_by pous p (Some (callee.Function f)) instance listed inputs in_outs outputs =
+    function_by f (enable_of pous p inputs outputs) (function_links pous p f (among (λ (i : PinIn). not (is_enable i)) inputs)) (is_negated (beside outputs))
+block_by pous p (Some (callee.Standard k)) instance listed inputs in_outs outputs = call_by pous p (callee.Standard k) instance listed inputs in_outs outputs
+block_by pous p (Some (callee.Block place)) instance listed inputs in_outs outputs = call_by pous p (callee.Block place) instance listed inputs in_outs outputs

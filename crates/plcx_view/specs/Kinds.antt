@@ -56,7 +56,7 @@ kind_of pous p pins (kind.Coil input text mods) = Coil (coiling_of mods) (target
 kind_of pous p pins (kind.In text mods) = reading_by mods.negated (text_held pous p text)
 kind_of pous p pins (kind.Out input text mods) = Out (storing_of mods) (target_of pous p text) (link_at pous p pins)
 kind_of pous p pins (kind.Block type_name instance inputs in_outs outputs) =
-    block_by pous p (callee_named pous type_name) instance (zip inputs pins) (zip in_outs (drop (length inputs) pins)) outputs
+    block_by pous p (callee_named pous type_name) instance inputs (zip inputs pins) (zip in_outs (drop (length inputs) pins)) outputs
 kind_of pous p pins (kind.Connector name input) = Pass (link_at pous p pins)
 kind_of pous p pins (kind.Continuation name) = Pass (link_at pous p pins)
 kind_of pous p pins (kind.Label name) = Label name

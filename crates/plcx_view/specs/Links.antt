@@ -8,7 +8,8 @@ use Rattle.plcx_model.specs.declared.body.Kind.{Kind}
 use Rattle.plcx_model.specs.declared.body.Kind.TheVariants as kind
 use Rattle.plcx_model.specs.declared.body.BodyElement.{BodyElement}
 use Rattle.plcx_model.specs.declared.project.Pou.{Pou}
-use Rattle.plcx_rules.specs.Callees.{Callee, Formal, callee_named, output_formal}
+use Rattle.plcx_rules.specs.declared.callee.Callee.{Callee}
+use Rattle.plcx_rules.specs.Callees.{Formal, callee_named, output_formal}
 use Rattle.plcx_rules.specs.Helds.{text_held}
 use Rattle.plcx_view.specs.Pins.{Feed, Pin}
 use Rattle.plcx_view.specs.Operands.{literal_by}
@@ -21,18 +22,18 @@ declared_name None = []
 declared_name (Some f) = f.name
 
 -- the name of a listed output, where there is one
-abbrev pub listed_name : Callee → List PinOut → Option PinOut → List ℕ
-listed_name callee outputs None = []
-listed_name callee outputs (Some o) = declared_name (output_formal callee outputs o)
+abbrev pub listed_name : List Pou → Callee → List PinOut → Option PinOut → List ℕ
+listed_name pous c outputs None = []
+listed_name pous c outputs (Some o) = declared_name (output_formal pous c outputs o)
 
 -- the name of the output at a place among the listed ones
-abbrev pub name_among : Option Callee → List PinOut → ℕ → List ℕ
-name_among None outputs pin = []
-name_among (Some callee) outputs pin = listed_name callee outputs (slice_get outputs pin)
+abbrev pub name_among : List Pou → Option Callee → List PinOut → ℕ → List ℕ
+name_among pous None outputs pin = []
+name_among pous (Some c) outputs pin = listed_name pous c outputs (slice_get outputs pin)
 
 -- the name of an output of an element, which is empty but at a block
 abbrev pub port_name : List Pou → Kind → ℕ → List ℕ
-port_name pous (kind.Block type_name instance inputs in_outs outputs) pin = name_among (callee_named pous type_name) outputs pin
+port_name pous (kind.Block type_name instance inputs in_outs outputs) pin = name_among pous (callee_named pous type_name) outputs pin
 port_name pous _ pin = []
 
 -- ---- sources
