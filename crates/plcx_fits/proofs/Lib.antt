@@ -1,0 +1,4 @@
+mod Lists
+mod Spelled
+mod Variables
+mod Nests

@@ -1,0 +1,2 @@
+//! The diagram of a checked project fits: what the meaning of diagrams presumes follows from the rules.
+#![tactic(auto)]
