@@ -1,5 +1,5 @@
 ghost use Rattle.std.specs.Prelude.{◌≡◌, ◌≤◌, ◌<◌, [], ◌+◌, length, ℕ, IfOk};
-ghost use Rattle.plcx_st.specs.Grammar.{operator, level};
+ghost use Rattle.plcx_st.specs.Grammar.{operator};
 ghost use Rattle.plcx_read.specs.Reading as spec;
 ghost use Rattle.plcx_read.specs.Gives.{Gives};
 
@@ -9,7 +9,7 @@ use crate::token::{
     unexpected,
 };
 use plcx_lex::TextError;
-use plcx_st::{Expr, Op, Terminal};
+use plcx_st::{Expr, Op, Terminal, level};
 use sqlite_items::{Boxed, Items};
 use std::alloc::{AllocError, Global};
 
@@ -32,21 +32,6 @@ fn operator(terminal: Terminal) -> Option<Op>
         Terminal::Divide => Some(Op::Divide),
         Terminal::Mod => Some(Op::Mod),
         _ => None,
-    }
-}
-
-fn level(op: Op) -> u8
-    ensures value { result ≡ level op }
-    ensures small { result < 7 }
-{
-    match op {
-        Op::Or => 0,
-        Op::Xor => 1,
-        Op::And => 2,
-        Op::Equal | Op::NotEqual => 3,
-        Op::Less | Op::Greater | Op::LessOrEqual | Op::GreaterOrEqual => 4,
-        Op::Plus | Op::Minus => 5,
-        Op::Times | Op::Divide | Op::Mod => 6,
     }
 }
 

@@ -1,0 +1,4 @@
+//! The types of a project's pins and wires, or the first of the rules 34 to 36 that it breaks.
+#![tactic(auto)]
+
+mod closure;
