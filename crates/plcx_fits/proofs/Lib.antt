@@ -6,3 +6,5 @@ mod Pigeons
 mod Bodies
 mod Judged
 mod Ports
+mod Parts
+mod Fed
