@@ -8,3 +8,5 @@ mod Judged
 mod Ports
 mod Parts
 mod Fed
+mod Sizes
+mod Joined

@@ -235,7 +235,7 @@ module _ (project : Project) (links : Links) (types : Types) (plan : Plan) (soun
           append_three [] b c = refl
           append_three (x ∷ a) b c = ap (λ rest. x ∷ rest) (append_three a b c)
 
-  nested : (n : ℕ) (p : Pou) → PouIsSound pous p → Each (λ (v : Variable). Nests pous n v.ty) (variables_of p) → Each (λ (l : VarList). Each (λ (v : Variable). IsKnown pous v.ty × Nests pous n v.ty) l.variables) p.lists
+  pub nested : (n : ℕ) (p : Pou) → PouIsSound pous p → Each (λ (v : Variable). Nests pous n v.ty) (variables_of p) → Each (λ (l : VarList). Each (λ (v : Variable). IsKnown pous v.ty × Nests pous n v.ty) l.variables) p.lists
   nested n p s nests =
       each_weaker (λ (l : VarList). ListIsSound pous p.kind l × Each (λ (v : Variable). Nests pous n v.ty) l.variables) (λ (l : VarList). Each (λ (v : Variable). IsKnown pous v.ty × Nests pous n v.ty) l.variables) p.lists
           (λ l h. each_weaker (λ (v : Variable). VariableIsSound pous l v × Nests pous n v.ty) (λ (v : Variable). IsKnown pous v.ty × Nests pous n v.ty) l.variables (λ v both. (both.0.known, both.1))
