@@ -2,3 +2,5 @@
 #![tactic(auto)]
 
 mod closure;
+mod flow;
+mod outputs;
