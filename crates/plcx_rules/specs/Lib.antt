@@ -9,3 +9,4 @@ pub mod LinkRules
 pub mod Types
 pub mod Forms
 pub mod TypingRules
+pub mod Typed

@@ -1,3 +1,4 @@
 pub mod Closure
 pub mod Sheets
 pub mod Flows
+pub mod Tests

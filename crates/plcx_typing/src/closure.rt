@@ -18,7 +18,7 @@ struct Search {
 }
 
 /// The place of a type among all types.
-fn position(ty: Ty) -> usize
+pub(crate) fn position(ty: Ty) -> usize
     ensures place { result ≡ position_of_type ty }
     ensures below { result < 14 }
 {

@@ -4,3 +4,4 @@
 mod closure;
 mod flow;
 mod outputs;
+mod rules;
