@@ -2,3 +2,4 @@ pub mod Closure
 pub mod Sheets
 pub mod Flows
 pub mod Tests
+pub mod Faults
