@@ -10,3 +10,6 @@ pub mod Types
 pub mod Forms
 pub mod TypingRules
 pub mod Typed
+-- Worked examples.
+pub mod Pieces
+pub mod LinkExamples

@@ -1,6 +1,6 @@
 -- The rules 20 to 33, each on an element of a body. What an earlier rule excludes a later one may answer either way.
 use Rattle.std.specs.Prelude.{◌≡◌, ℕ, Bool, true, false, not, ◌&&◌, ◌||◌, List, [], ◌∷◌, map, Option, Some, None, is_none, nat_eq, nat_lt, length}
-use Rattle.std.specs.List.{list_any}
+use Rattle.std.specs.List.{list_any, find}
 use Rattle.plcx_funcs.specs.Pins.{can_have}
 use Rattle.plcx_model.specs.declared.body.Edge.{Edge}
 use Rattle.plcx_model.specs.declared.body.Edge.TheVariants as edge
@@ -288,3 +288,17 @@ link_place r x = place_of x
 -- the first rule from 20 to 33 that a project breaks, and the element that breaks it first
 abbrev pub LinkVerdict : Project → Option (LinkRule × Place) → Type 0
 LinkVerdict project v = Verdict (BreaksLink project.pous) link_place (items_of project.pous) link_rules v
+
+-- the first element that breaks a rule, or else an answer on the rules behind it
+abbrev pub answer_or : LinkRule → Option Item → Option (LinkRule × Place) → Option (LinkRule × Place)
+answer_or r None later = later
+answer_or r (Some x) later = Some (r, link_place r x)
+
+-- the answer of some rules, as it computes
+abbrev pub first_of_rules : List Pou → List LinkRule → Option (LinkRule × Place)
+first_of_rules pous [] = None
+first_of_rules pous (r ∷ rules) = answer_or r (find (breaks pous r) (items_of pous)) (first_of_rules pous rules)
+
+-- the verdict, as it computes
+abbrev pub link_answer : List Pou → Option (LinkRule × Place)
+link_answer pous = first_of_rules pous link_rules

@@ -8,9 +8,14 @@
 #![tactic(auto)]
 
 mod callee;
+mod examples;
 mod form;
 mod rule;
 
 pub use callee::Callee;
+pub use examples::{
+    examples_of_blocks, examples_of_connections, examples_of_expressions, examples_of_formals,
+    examples_of_modifiers, examples_of_names, examples_of_references,
+};
 pub use form::{Form, Gives, Grouping, Out, Outputs, Pin, TypeRule, WireForm};
 pub use rule::LinkRule;
