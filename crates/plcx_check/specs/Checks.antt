@@ -10,9 +10,9 @@ use Rattle.plcx_rules.specs.Sources.{links_of}
 use Rattle.plcx_rules.specs.Typed.{HaveTypes}
 use Rattle.plcx_rules.specs.TypingRules.{TypingVerdict}
 use Rattle.plcx_view.specs.Checked.{ArePlans, IsChecked}
-use Rattle.plcx_check.specs.declared.check.Found.{Found}
-use Rattle.plcx_check.specs.declared.check.Stop.{Stop}
-use Rattle.plcx_check.specs.declared.check.Stop.TheVariants as stop
+use Rattle.plcx_check.specs.declared.verdict.Found.{Found}
+use Rattle.plcx_check.specs.declared.verdict.Stop.{Stop}
+use Rattle.plcx_check.specs.declared.verdict.Stop.TheVariants as stop
 use Rattle.plcx_check.specs.declared.checked.Checked.{Checked}
 use Rattle.plcx_check.specs.declared.error.CheckError.{CheckError}
 use Rattle.plcx_check.specs.declared.error.CheckError.TheVariants.{Broken, NoMemory}

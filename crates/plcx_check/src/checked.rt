@@ -11,7 +11,7 @@ pub struct Checked {
     links: Links,
     types: Types,
     plan: Plan,
-    ghost checked: { IsChecked project links types plan },
+    ghost checked: { ∥ IsChecked project links types plan ∥₁ },
 }
 
 impl Checked {

@@ -3,11 +3,11 @@
 //! A `Checked` keeps the project with its links, types and plan. Its diagram is `diagrams_of` of plcx_view over these.
 #![tactic(auto)]
 
-mod check;
 mod checked;
 mod error;
 mod plans;
+mod verdict;
 
-pub use check::check;
 pub use checked::Checked;
 pub use error::CheckError;
+pub use verdict::check;
