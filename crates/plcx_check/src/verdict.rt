@@ -6,10 +6,10 @@ ghost use Rattle.plcx_check.specs.Checks.{IsLinkedBy, IsTypedBy, IsPlannedBy, Is
 use crate::checked::Checked;
 use crate::error::CheckError;
 use crate::plans::plan;
-use plcx_link::{link, LinkError};
+use plcx_link::{LinkError, link};
 use plcx_model::{Broken, Links, Plan, Project, Types};
 use plcx_types::NoMemory;
-use plcx_typing::{typing, TypingError};
+use plcx_typing::{TypingError, typing};
 use std::alloc::Global;
 
 /// What is found out about a project that breaks no rule.
@@ -75,8 +75,8 @@ fn found_out(alloc: Global, project: &Project) -> Result<Found, Stop>
 /// Checks a project by the rules 20 to 36, whose places are a POU and an element. The project comes back unchanged where
 /// it isn't checked.
 pub fn check(alloc: Global, project: Project) -> Result<Checked, CheckError>
-    requires { Sound project.entry }
-    ensures { MatchResult result (IsCheckedOf project.entry) (Refuses project.entry) }
+    requires { Sound project }
+    ensures { MatchResult result (IsCheckedOf project) (Refuses project) }
 {
     match found_out(alloc, &project) {
         Ok(found) => Ok(Checked::new(project, found.links, found.types, found.plan)),
