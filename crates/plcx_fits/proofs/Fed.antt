@@ -1,9 +1,9 @@
 -- How much feeds back in a body.
-use Rattle.std.proofs.Common.{◌≡◌, ◌≢◌, ℕ, zero, suc, ◌+◌, ◌*◌, ◌<◌, ◌≤◌, Bool, true, false, cond, List, [], ◌∷◌, ◌++◌, map, filter, length, take, drop, Option, Some, None, slice_get, refl, sym, ap, ap₂, ◌∙◌, subst, arith}
-use Rattle.std.specs.Prelude.{not, ◌&&◌, ◌||◌, nat_eq}
+use Rattle.std.proofs.Common.{◌≡◌, ℕ, suc, ◌+◌, ◌*◌, ◌≤◌, Bool, true, false, cond, List, [], ◌∷◌, ◌++◌, map, filter, length, drop, refl, sym, ap, ◌∙◌, arith}
+use Rattle.std.specs.Prelude.{not, nat_eq}
 use Rattle.std.specs.List.{list_any, zip, flat_map, sum_by}
 use Rattle.std.specs.Str.{bytes_eq}
-use Rattle.std.proofs.lemmas.Bool.{and_parts, and_left, and_right, or_parts, cases_Bool}
+use Rattle.std.proofs.lemmas.Bool.{and_parts, and_left, and_right, or_parts}
 use Rattle.std.proofs.lemmas.List.{length-append, length-map}
 use Rattle.std.proofs.lemmas.List.Sums.{sum_by-append, sum_by-cons}
 use Rattle.plcx_types.specs.declared.ty.Ty.{Ty}
@@ -12,8 +12,8 @@ use Rattle.plcx_types.specs.Name.{in_lower_case}
 use Rattle.plcx_meaning.specs.Base.{all_differ, are_distinct}
 use Rattle.plcx_meaning.specs.Diagram.{Port, ports, link_reads_back, links_of, is_fed, DiagramElement}
 use Rattle.plcx_meaning.specs.Diagram as diagram
-use Rattle.plcx_meaning.proofs.Lists.{each_weaker, each_append, distinct_parts}
-use Rattle.plcx_meaning.proofs.Names.{bytes_same, bytes_self, bytes_apart}
+use Rattle.plcx_meaning.proofs.Lists.{each_append, distinct_parts}
+use Rattle.plcx_meaning.proofs.Names.{bytes_self, bytes_apart}
 use Rattle.plcx_model.specs.declared.source.Source.{Source}
 use Rattle.plcx_model.specs.declared.body.Connection.{Connection}
 use Rattle.plcx_model.specs.declared.body.Kind.{Kind}
@@ -25,11 +25,9 @@ use Rattle.plcx_rules.specs.Laws.{source_counts, AreCounted}
 use Rattle.plcx_rules.specs.Sources.{pins_with_sources, sources_in}
 use Rattle.plcx_view.specs.Pins.{Pin, pins_from}
 use Rattle.plcx_view.specs.Links.{source_of}
-use Rattle.plcx_view.specs.Kinds.{kind_of}
 use Rattle.plcx_view.specs.Diagrams.{elements_from, without_networks, with_fed, elements_of}
-use Rattle.plcx_fits.proofs.Lists.{any_mapped}
 use Rattle.plcx_fits.proofs.Pigeons.{Has, Differ, no_longer}
-use Rattle.plcx_fits.proofs.Parts.{Output, same_output, outputs_equal, output_self, sources_of, read_by, elements_read, backs, backs_few, backs_have}
+use Rattle.plcx_fits.proofs.Parts.{Output, same_output, outputs_equal, output_self, sources_of, elements_read, backs, backs_few, backs_have}
 
 -- ---- how many sources there are
 

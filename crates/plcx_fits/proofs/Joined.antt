@@ -1,16 +1,14 @@
 -- The clauses of a diagram that fits, joined.
-use Rattle.std.proofs.Common.{◌≡◌, ℕ, zero, suc, ◌+◌, ◌*◌, ◌<◌, ◌≤◌, ◌^◌, true, false, List, [], ◌∷◌, map, filter, length, take, drop, Option, Some, None, get_or, slice_get, refl, sym, ap, ◌∙◌, subst, arith}
+use Rattle.std.proofs.Common.{◌≡◌, ℕ, zero, suc, ◌+◌, ◌*◌, ◌<◌, ◌≤◌, ◌^◌, true, false, List, [], ◌∷◌, map, length, take, drop, Option, Some, None, get_or, slice_get, refl, sym, ap, ◌∙◌, subst, arith}
 use Rattle.std.specs.Prelude.{◌||◌}
 use Rattle.std.specs.List.{AllZip, sum_by}
 use Rattle.std.proofs.lemmas.Bool.{or_parts}
-use Rattle.plcx_types.specs.Limits.{max_parts}
 use Rattle.plcx_types.specs.Lists.{Each}
 use Rattle.plcx_types.specs.Name.{in_lower_case}
 use Rattle.plcx_meaning.specs.Base.{are_distinct}
 use Rattle.plcx_meaning.specs.Diagram.{DiagramElement, ports}
 use Rattle.plcx_meaning.specs.Diagram as diagram
 use Rattle.plcx_meaning.specs.Fits.{ElementsFit, PortsFit, PouFits, PouNests, ProjectFits}
-use Rattle.plcx_meaning.specs.Fits as fits
 use Rattle.plcx_meaning.proofs.Fed.{fed_distinct}
 use Rattle.plcx_meaning.proofs.Lists.{each_weaker, each_map}
 use Rattle.plcx_model.specs.declared.body.Kind.{Kind}
@@ -24,7 +22,7 @@ use Rattle.plcx_model.specs.declared.plan.Plan.{Plan}
 use Rattle.plcx_model.specs.declared.project.Pou.{Pou}
 use Rattle.plcx_model.specs.declared.project.Project.{Project}
 use Rattle.plcx_model.specs.Numbering.{pins_of, HasGraph}
-use Rattle.plcx_model.specs.Sound.{connections, PouIsSound, Sound}
+use Rattle.plcx_model.specs.Sound.{connections, PouIsSound}
 use Rattle.plcx_rules.specs.declared.rule.LinkRule.TheVariants as rule
 use Rattle.plcx_rules.specs.Callees.{callee_named}
 use Rattle.plcx_rules.specs.LinkRules.{inputs_fail, in_outs_fail, outputs_fail, breaks_formals, breaks}
@@ -37,11 +35,11 @@ use Rattle.plcx_model.specs.declared.body.PinOut.{PinOut}
 use Rattle.plcx_rules.specs.LinkRules.{formals_fail}
 use Rattle.plcx_view.specs.Checked.{IsBodyPlan, graph_of_pou, IsChecked}
 use Rattle.plcx_view.specs.Pins.{Pin, pins_from}
-use Rattle.plcx_view.specs.Kinds.{kind_of}
 use Rattle.plcx_view.specs.Diagrams.{element_of, elements_from, without_networks, with_fed, elements_of, no_plan, pous_from, diagrams_of}
+use Rattle.plcx_fits.specs.Networks.{NetworksFit}
 use Rattle.plcx_fits.proofs.Bodies.{ids_differ, count_of, elements_few, networks_few}
 use Rattle.plcx_fits.proofs.Fed.{body_parts}
-use Rattle.plcx_fits.proofs.Judged.{link_verdict, kept_at, item}
+use Rattle.plcx_fits.proofs.Judged.{link_verdict, kept_at}
 use Rattle.plcx_fits.proofs.Lists.{each_place}
 use Rattle.plcx_fits.proofs.Nests.{pou_nests, leaves_fit, sound_nests}
 use Rattle.plcx_fits.proofs.Ports.{fed_fits, OutputsSuit, KindSuits, kind_named}
@@ -96,8 +94,7 @@ ports_from : (pous : List Pou) → Each (PouIsSound pous) pous → (p : Pou) (dp
 ports_from pous sound p dp q is pins [] all = tt
 ports_from pous sound p dp q is pins (e ∷ es) all =
     let own = take (pins_of e.kind) pins in
-    let named = kind_named pous sound p own e.kind all.0.1 in
-    (
+    let named = kind_named pous sound p own e.kind all.0.1 in (
       record { small = all.0.0; pins = named.distinct; fed = fed_fits dp q (element_of pous p own e) is; names = named.names },
       ports_from pous sound p dp q is (drop (pins_of e.kind) pins) es all.1,
     )
@@ -127,7 +124,7 @@ module _ (project : Project) (links : Links) (types : Types) (plan : Plan) (c : 
   unfolding breaks
   elements_ready i p at =
       by_places (IsReady pous) p.body.elements (λ j e there.
-          (each_place (λ (x : BodyElement). x.local_id < 2 ^ 64) p.body.elements j e there (pou_sound i p at).body.ids, kind_suits pous e.kind (kept_at project (link_verdict project c.verdict) rule.Formals i p at j e there)))
+      (each_place (λ (x : BodyElement). x.local_id < 2 ^ 64) p.body.elements j e there (pou_sound i p at).body.ids, kind_suits pous e.kind (kept_at project (link_verdict project c.verdict) rule.Formals i p at j e there)))
 
   ports_fit : (i : ℕ) (p : Pou) → slice_get pous i ≡ Some p → Each (PortsFit (shown i p)) (shown i p).elements
   ports_fit i p at =
@@ -147,15 +144,12 @@ module _ (project : Project) (links : Links) (types : Types) (plan : Plan) (c : 
       let is = sources_at i p at in
       let apart = each_weaker (PortsFit (shown i p)) (λ (e : DiagramElement). are_distinct (map (λ (o : diagram.Port). in_lower_case o.pin) e.fed) ≡ true) (shown i p).elements (λ e fit. fed_distinct (shown i p) e fit) (ports_fit i p at) in
       let most = body_parts pous p given marks (each_place _ pous i p at (are_counted project (link_verdict project c.verdict))) (count_of pous p _) (ids_differ pous p _ (graph_at i p at).differ)
-          (subst (λ (sources : List (List Source)). Each (λ (e : DiagramElement). are_distinct (map (λ (o : diagram.Port). in_lower_case o.pin) e.fed) ≡ true) (es sources)) is apart) in
+      (subst (λ (sources : List (List Source)). Each (λ (e : DiagramElement). are_distinct (map (λ (o : diagram.Port). in_lower_case o.pin) e.fed) ≡ true) (es sources)) is apart) in
       subst (λ (sources : List (List Source)). sum_by (λ (e : DiagramElement). suc (length e.fed)) (es sources) ≤ 2 * (length p.body.elements + sum_by connections p.body.elements)) (sym is) most
 
-  -- each diagram has at most twice the parts that a project may have
-  pub parts_at : (i : ℕ) (p : Pou) → slice_get pous i ≡ Some p → fits.parts 18 dia (shown i p) ≤ 2 * max_parts
-  parts_at i p at = parts_fit project links types plan c.sound bounded i p at (pou_sound i p at)
-
-  pub pou_fits : (i : ℕ) (p : Pou) → slice_get pous i ≡ Some p → Each (ElementsFit dia (shown i p) []) (shown i p).networks → fits.parts 18 dia (shown i p) ≤ max_parts → PouFits dia (shown i p)
-  pou_fits i p at networks parts =
+  -- the diagram of a POU fits where its networks do
+  pub pou_fits : (i : ℕ) (p : Pou) → slice_get pous i ≡ Some p → Each (ElementsFit dia (shown i p) []) (shown i p).networks → PouFits dia (shown i p)
+  pou_fits i p at networks =
       let s = pou_sound i p at in
       let pins = pins_from (get_or types.inputs i []) (get_or links.bodies i []) (get_or plan.bodies i no_plan).marks in
       record {
@@ -170,7 +164,7 @@ module _ (project : Project) (links : Links) (types : Types) (plan : Plan) (c : 
         count = networks_few pous p (elements_of pous p pins) (get_or plan.bodies i no_plan) s (plan_at i p at);
         in_outs = in_outs_fit project links types plan c.sound p s;
         leaves = leaves_fit project links types plan c.sound i p s;
-        parts = parts;
+        parts = parts_fit project links types plan c.sound bounded i p at s;
         addresses = addresses_fit project links types plan c.sound p s;
       }
 
@@ -178,8 +172,7 @@ module _ (project : Project) (links : Links) (types : Types) (plan : Plan) (c : 
   over_pous : (P : diagram.Pou → Type 0) (k : ℕ) (ps : List Pou) → ((i : ℕ) (p : Pou) → slice_get ps i ≡ Some p → P (shown (k + i) p)) → Each P (pous_from project links types plan k ps)
   over_pous P k [] h = tt
   over_pous P k (p ∷ ps) h =
-      let stays : k + 0 ≡ k = omega arith in
-      (
+      let stays : k + 0 ≡ k = omega arith in (
         subst (λ j. P (shown j p)) stays (h zero p refl),
         over_pous P (k + 1) ps (λ i r at. let moved : k + suc i ≡ k + 1 + i = omega arith in subst (λ j. P (shown j r)) moved (h (suc i) r at)),
       )
@@ -191,10 +184,27 @@ module _ (project : Project) (links : Links) (types : Types) (plan : Plan) (c : 
   names_from k [] = refl
   names_from k (p ∷ ps) = ap (λ rest. in_lower_case p.name ∷ rest) (names_from (k + 1) ps)
 
-  -- the diagram fits where its networks do, and where it has no more parts than a diagram may have
-  pub project_fits : ((i : ℕ) (p : Pou) → slice_get pous i ≡ Some p → Each (ElementsFit dia (shown i p) []) (shown i p).networks) → ((i : ℕ) (p : Pou) → slice_get pous i ≡ Some p → fits.parts 18 dia (shown i p) ≤ max_parts) → ProjectFits dia
-  project_fits networks parts = record {
+  -- the diagram fits where its networks do
+  pub project_fits : ((i : ℕ) (p : Pou) → slice_get pous i ≡ Some p → Each (ElementsFit dia (shown i p) []) (shown i p).networks) → ProjectFits dia
+  project_fits networks = record {
     names = ap are_distinct (names_from 0 pous) ∙ distinct project links types plan c.sound;
-    pous = each_pou (PouFits dia) (λ i p at. pou_fits i p at (networks i p at) (parts i p at));
+    pous = each_pou (PouFits dia) (λ i p at. pou_fits i p at (networks i p at));
     nests = each_pou (PouNests 16 dia) (λ i p at. pou_nests project links types plan c.sound 16 i p (pou_sound i p at) (sound_nests project links types plan c.sound p (pou_sound i p at)));
   }
+
+  -- what holds of each diagram holds of that of a POU
+  at_pou : (P : diagram.Pou → Type 0) (k : ℕ) (ps : List Pou) → Each P (pous_from project links types plan k ps) → (i : ℕ) (p : Pou) → slice_get ps i ≡ Some p → P (shown (k + i) p)
+  at_pou P k [] all i p at = absurd (cc)
+  at_pou P k (q ∷ ps) all zero p at =
+      let same : q ≡ p = cc in
+      let stays : k ≡ k + 0 = omega arith in
+      subst (λ j. P (shown j p)) stays (subst (λ (r : Pou). P (shown k r)) same all.0)
+  at_pou P k (q ∷ ps) all (suc i) p at =
+      let moved : k + 1 + i ≡ k + suc i = omega arith in
+      subst (λ j. P (shown j p)) moved (at_pou P (k + 1) ps all.1 i p at)
+
+  pub from_networks : NetworksFit dia → ProjectFits dia
+  from_networks all = project_fits (λ i p at. let stays : 0 + i ≡ i = omega arith in subst (λ j. Each (ElementsFit dia (shown j p) []) (shown j p).networks) stays (at_pou (λ (d : diagram.Pou). Each (ElementsFit dia d []) d.networks) 0 pous all i p at))
+
+pub fits_around_networks : (project : Project) (links : Links) (types : Types) (plan : Plan) → IsChecked project links types plan → NetworksFit (diagrams_of project links types plan) → ProjectFits (diagrams_of project links types plan)
+fits_around_networks project links types plan c all = from_networks project links types plan c all

@@ -1,22 +1,16 @@
 -- What feeds back in a body is no more than its connections and continuations, and so a diagram has at most twice the parts of its project.
-use Rattle.std.proofs.Common.{◌≡◌, ◌≢◌, ℕ, zero, suc, ◌+◌, ◌*◌, ◌<◌, ◌≤◌, ◌⊎◌, inl, inr, Bool, true, false, cond, List, [], ◌∷◌, ◌++◌, map, filter, length, take, drop, Option, Some, None, slice_get, get_or, refl, sym, ap, ap₂, ◌∙◌, subst, arith, if◌then◌else◌}
-use Rattle.std.specs.Prelude.{not, ◌&&◌, ◌||◌, nat_eq, is_some}
-use Rattle.std.specs.List.{list_any, find, filter_map, cons_option, zip, flat_map, sum_by, range_with_len}
+use Rattle.std.proofs.Common.{◌≡◌, ℕ, zero, suc, ◌≤◌, inl, inr, Bool, true, false, cond, List, [], ◌∷◌, ◌++◌, map, length, take, drop, Option, Some, None, refl, sym, ap, ap₂, ◌∙◌, arith}
+use Rattle.std.specs.Prelude.{not, ◌&&◌, ◌||◌, nat_eq}
+use Rattle.std.specs.List.{list_any, find, filter_map, cons_option, zip, flat_map, range_with_len}
 use Rattle.std.specs.Option.{option_map}
 use Rattle.std.specs.Str.{bytes_eq}
-use Rattle.std.proofs.lemmas.Bool.{and_parts, and_from, or_parts, or_from, or_cases, eq-eqb, eqb-true}
-use Rattle.std.proofs.lemmas.List.{length-append, length-map}
-use Rattle.std.proofs.lemmas.List.Sums.{sum_by-append, sum_by-cons}
+use Rattle.std.proofs.lemmas.Bool.{and_parts, and_from, or_cases, eq-eqb, eqb-true}
 use Rattle.plcx_types.specs.declared.ty.Ty.{Ty}
 use Rattle.plcx_types.specs.Lists.{Each}
-use Rattle.plcx_types.specs.Name.{in_lower_case}
 use Rattle.plcx_funcs.specs.declared.func.Func.{Func}
-use Rattle.plcx_meaning.specs.Base.{all_differ, are_distinct}
-use Rattle.plcx_meaning.specs.Diagram.{Source, Rail, Literal, Wire, Back, Link, Enable, ElementKind, Port, ports, links_of, enable_links, reads_back, link_reads_back, is_fed, DiagramElement, InputPin}
-use Rattle.plcx_meaning.specs.Diagram as diagram
+use Rattle.plcx_meaning.specs.Diagram.{Source, Rail, Literal, Wire, Back, Link, links_of, enable_links, reads_back, link_reads_back, DiagramElement, InputPin}
 use Rattle.plcx_meaning.proofs.Lists.{each_weaker}
-use Rattle.plcx_meaning.proofs.Names.{bytes_same, bytes_self, bytes_apart}
-use Rattle.plcx_model.specs.declared.source.Source as model
+use Rattle.plcx_meaning.proofs.Names.{bytes_same, bytes_self}
 use Rattle.plcx_model.specs.declared.body.PinIn.{PinIn}
 use Rattle.plcx_model.specs.declared.body.PinOut.{PinOut}
 use Rattle.plcx_model.specs.declared.body.Kind.{Kind}
@@ -28,13 +22,13 @@ use Rattle.plcx_rules.specs.declared.callee.Callee.{Callee}
 use Rattle.plcx_rules.specs.declared.callee.Callee.TheVariants as callee
 use Rattle.plcx_rules.specs.Callees.{callee_named, is_enable}
 use Rattle.plcx_rules.specs.Helds.{Held, OfLiteral, OfVariable, OfInstance, OfOutput, text_held}
-use Rattle.plcx_view.specs.Pins.{Feed, Pin, pins_from}
+use Rattle.plcx_view.specs.Pins.{Pin}
 use Rattle.plcx_view.specs.Operands.{reading_by}
-use Rattle.plcx_view.specs.Links.{source_of, link_by, link_of, link_at}
-use Rattle.plcx_view.specs.Blocks.{Wired, wired_link, enables, is_taken, among, beside, enable_of, input_at, function_links, input_pin, call_by, block_by}
+use Rattle.plcx_view.specs.Links.{source_of, link_by, link_at}
+use Rattle.plcx_view.specs.Blocks.{Wired, wired_link, enables, is_taken, among, enable_of, input_at, function_links, input_pin, call_by, block_by}
 use Rattle.plcx_view.specs.Kinds.{kind_of}
-use Rattle.plcx_view.specs.Diagrams.{element_of, elements_from, without_networks, with_fed, elements_of}
-use Rattle.plcx_fits.proofs.Pigeons.{Has, Differ, no_longer}
+use Rattle.plcx_view.specs.Diagrams.{elements_from}
+use Rattle.plcx_fits.proofs.Pigeons.{Has}
 use Rattle.plcx_fits.proofs.Ports.{found_one}
 
 -- ---- what is read as feeding back comes over a connection
@@ -79,7 +73,7 @@ module _ (pous : List Pou) (p : Pou) where
     read_front (suc k) [] h = absurd (cc)
     read_front (suc k) (pin ∷ pins) h =
         either _ _ (sym (any_append (reads_back id n) (map (source_of pous p) pin.feeds) (sources_of (take k pins))) ∙ h)
-            (λ a. read_here pin pins a) (λ b. read_more pin pins (read_front k pins b))
+        (λ a. read_here pin pins a) (λ b. read_more pin pins (read_front k pins b))
 
     read_back : (k : ℕ) (pins : List Pin) → read_by (drop k pins) ≡ true → read_by pins ≡ true
     read_back zero pins h = h
@@ -153,14 +147,14 @@ module _ (pous : List Pou) (p : Pou) where
     call_read : (pins : List Pin) (c : Callee) (instance : Option (List ℕ)) (listed : List PinIn) (ws in_outs : List Wired) (outputs : List PinOut) → Each (IsWired pins) ws → Each (IsRead pins) (links_of (call_by pous p c instance listed ws in_outs outputs))
     call_read pins c instance listed ws in_outs outputs all =
         joined_read pins (enable_links (enable_of pous p ws outputs)) (map (λ (i : InputPin). i.link) (map (input_pin pous p c listed) (among is_taken ws))) (enable_read pins ws outputs all)
-            (inputs_read pins c listed (among is_taken ws) (kept_wired pins is_taken ws all))
+        (inputs_read pins c listed (among is_taken ws) (kept_wired pins is_taken ws all))
 
     block_read : (pins : List Pin) (c : Option Callee) (instance : Option (List ℕ)) (listed : List PinIn) (ws in_outs : List Wired) (outputs : List PinOut) → Each (IsWired pins) ws → Each (IsRead pins) (links_of (block_by pous p c instance listed ws in_outs outputs))
     block_read pins None instance listed ws in_outs outputs all = tt
     block_read pins (Some (callee.Function f)) instance listed ws in_outs outputs all =
         let others = among (λ (i : PinIn). not (is_enable i)) ws in
         joined_read pins (enable_links (enable_of pous p ws outputs)) (function_links pous p f others) (enable_read pins ws outputs all)
-            (function_read pins f others (range_with_len 0 (length others)) (kept_wired pins (λ (i : PinIn). not (is_enable i)) ws all))
+        (function_read pins f others (range_with_len 0 (length others)) (kept_wired pins (λ (i : PinIn). not (is_enable i)) ws all))
     block_read pins (Some (callee.Standard k)) instance listed ws in_outs outputs all = call_read pins (callee.Standard k) instance listed ws in_outs outputs all
     block_read pins (Some (callee.Block place)) instance listed ws in_outs outputs all = call_read pins (callee.Block place) instance listed ws in_outs outputs all
 
@@ -196,8 +190,8 @@ module _ (pous : List Pou) (p : Pou) where
         let own = take (pins_of e.kind) pins in
         let others = drop (pins_of e.kind) pins in
         either (list_any (link_reads_back id n) (links_of (kind_of pous p own e.kind))) (list_any (λ (x : DiagramElement). list_any (link_reads_back id n) (links_of x.kind)) (elements_from pous p others es)) h
-            (λ a. read_front (pins_of e.kind) pins (all_read own (links_of (kind_of pous p own e.kind)) (kind_read own e.kind) a))
-            (λ b. read_back (pins_of e.kind) pins (elements_read others es b))
+        (λ a. read_front (pins_of e.kind) pins (all_read own (links_of (kind_of pous p own e.kind)) (kind_read own e.kind) a))
+        (λ b. read_back (pins_of e.kind) pins (elements_read others es b))
 
 -- ---- outputs that feed back, each once
 
@@ -241,5 +235,5 @@ backs_have id n (Literal negated m ∷ ss) h = backs_have id n ss h
 backs_have id n (Wire i m ∷ ss) h = backs_have id n ss h
 backs_have id n (Back i m ∷ ss) h =
     either (nat_eq i id && bytes_eq m n) (list_any (reads_back id n) ss) h
-        (λ a. inl (let parts = and_parts (nat_eq i id) (bytes_eq m n) a in ap₂ (λ (j : ℕ) (l : List ℕ). let o : Output = (j, l) in o) (sym (eqb-true i id parts.0)) (sym (bytes_same m n parts.1))))
-        (λ b. inr (backs_have id n ss b))
+    (λ a. inl (let parts = and_parts (nat_eq i id) (bytes_eq m n) a in ap₂ (λ (j : ℕ) (l : List ℕ). let o : Output = (j, l) in o) (sym (eqb-true i id parts.0)) (sym (bytes_same m n parts.1))))
+    (λ b. inr (backs_have id n ss b))

@@ -1,5 +1,5 @@
 -- A diagram has at most twice the parts of its project.
-use Rattle.std.proofs.Common.{◌≡◌, ℕ, zero, suc, ◌+◌, ◌*◌, ◌≤◌, List, [], ◌∷◌, ◌++◌, map, length, Option, Some, None, slice_get, refl, sym, ap, ◌∙◌, subst, arith, if◌then◌else◌}
+use Rattle.std.proofs.Common.{◌≡◌, ℕ, zero, suc, ◌+◌, ◌*◌, ◌≤◌, List, [], ◌∷◌, map, length, Option, Some, None, slice_get, refl, ap, ◌∙◌, subst, arith, if◌then◌else◌}
 use Rattle.std.specs.Prelude.{is_some}
 use Rattle.std.specs.List.{flat_map, sum_by}
 use Rattle.std.proofs.lemmas.List.Sums.{sum_by-append, sum_by-cons}
@@ -27,9 +27,9 @@ use Rattle.plcx_model.specs.declared.project.VarList.{VarList}
 use Rattle.plcx_model.specs.declared.project.Pou.{Pou}
 use Rattle.plcx_model.specs.declared.project.Project.{Project}
 use Rattle.plcx_model.specs.Sound.{variables_of, IsKnown, Nests, PouIsSound, Sound, connections, count_at, type_parts, parts}
-use Rattle.plcx_view.specs.Declared.{class_of, mark_of, spelled_type, declaration_of, list_of, lists_of}
+use Rattle.plcx_view.specs.Declared.{class_of, mark_of, spelled_type, declaration_of, list_of}
 use Rattle.plcx_fits.proofs.Spelled.{kind_of_name, seen, whole}
-use Rattle.plcx_fits.proofs.Variables.{IsBlock, is_block}
+use Rattle.plcx_fits.proofs.Variables.{is_block}
 use Rattle.plcx_fits.proofs.Nests.{nested, sound_nests}
 
 -- what a variable adds, by what the name of its type stands for
