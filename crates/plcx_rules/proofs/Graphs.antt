@@ -18,34 +18,13 @@ use Rattle.plcx_model.specs.declared.project.Project.{Project}
 use Rattle.plcx_model.specs.declared.source.Source.{Source}
 use Rattle.plcx_model.specs.Numbering.{pins_of, pins_in, LocalIdsDiffer, HasGraph}
 use Rattle.plcx_model.specs.Sound.{Sound, PouIsSound, PinsAreFew, connections_of}
-use Rattle.plcx_model.specs.Verdict.{Never, Verdict, Next}
-use Rattle.plcx_rules.specs.declared.rule.LinkRule.{LinkRule}
 use Rattle.plcx_rules.specs.declared.rule.LinkRule.TheVariants as rule
 use Rattle.plcx_rules.specs.Sources.{source, place_of_id, output_place, source_at, source_of, is_connector_named, connector_place, sources_at, continued, pins_with_sources, sources_in}
-use Rattle.plcx_rules.specs.Items.{Item, items_in, items_from, items_of}
-use Rattle.plcx_rules.specs.LinkRules.{names_no_output, breaks, BreaksLink, LinkVerdict}
+use Rattle.plcx_rules.specs.Items.{items_in, items_from}
+use Rattle.plcx_rules.specs.LinkRules.{names_no_output, breaks, LinkVerdict}
 use Rattle.plcx_rules.specs.Laws.{HaveGraphs, AreSources}
-use Rattle.plcx_rules.proofs.Lists.{length_map, each_split, each_more, each_of_map, each_of_flat_map, OnEvery, each_of_filter_map, each_never, any_front, any_last, none_of, below_end}
-
--- ---- from the verdict to the elements
-
--- a rule that is kept, and those behind it
-kept : {R A P : Type 0} {B : R → List A → A → Type 0} {place : R → A → P} {items : List A} {r : R} {rules : List R} → Verdict B place items (r ∷ rules) None → Never (B r) [] items × Verdict B place items rules None
-kept (Next never rest) = (never, rest)
-
--- no element breaks this rule
-abbrev Keeps : List Pou → LinkRule → Item → Type 0
-Keeps pous r x = breaks pous r x ≡ true → ⊥
-
-each_keeps : (pous : List Pou) (r : LinkRule) → Never (BreaksLink pous r) [] (items_of pous) → Each (Keeps pous r) (items_from 0 pous)
-unfolding items_of
-each_keeps pous r never = each_never (λ (x : Item). breaks pous r x ≡ true) [] (items_from 0 pous) never
-
-ids_kept : (project : Project) → LinkVerdict project None → Each (Keeps project.pous rule.LocalIds) (items_from 0 project.pous)
-ids_kept project v = each_keeps project.pous rule.LocalIds (kept v).0
-
-outputs_kept : (project : Project) → LinkVerdict project None → Each (Keeps project.pous rule.Outputs) (items_from 0 project.pous)
-outputs_kept project v = each_keeps project.pous rule.Outputs (kept (kept (kept v).1).1).0
+use Rattle.plcx_rules.proofs.Kept.{Keeps, keeps}
+use Rattle.plcx_rules.proofs.Lists.{length_map, each_split, each_more, each_of_map, each_of_flat_map, OnEvery, each_of_filter_map, any_front, any_last, none_of, below_end}
 
 -- ---- localIds
 
@@ -190,7 +169,7 @@ graphs pous k (p ∷ ps) sound keep =
     (graph_of pous k p sound.0 both.0, graphs pous (k + 1) ps sound.1 both.1)
 
 pub have_graphs : (project : Project) → Sound project → LinkVerdict project None → HaveGraphs project.pous
-have_graphs project sound v = graphs project.pous 0 project.pous sound.pous (ids_kept project v)
+have_graphs project sound v = graphs project.pous 0 project.pous sound.pous (keeps project v rule.LocalIds)
 
 -- ---- connections
 
@@ -199,7 +178,7 @@ some_of None h = absurd (h refl)
 some_of (Some x) h = refl
 
 -- each connection of an element that doesn't break the rule on outputs is a source
-each_source : (elements : List BodyElement) (k : Kind) → (names_no_output elements k ≡ true → ⊥) → Each (Each (λ (c : Connection). is_some (source_of elements c) ≡ true)) (connections_of k)
+pub each_source : (elements : List BodyElement) (k : Kind) → (names_no_output elements k ≡ true → ⊥) → Each (Each (λ (c : Connection). is_some (source_of elements c) ≡ true)) (connections_of k)
 each_source elements k h =
     let no : Connection → Bool = λ c. is_none (source_of elements c) in
     each_more (λ (pin : List Connection). list_any no pin ≡ true → ⊥) (Each (λ (c : Connection). is_some (source_of elements c) ≡ true)) (connections_of k)
@@ -218,4 +197,4 @@ all_sources pous k (p ∷ ps) keep =
     (body_sources pous k p 0 p.body.elements both.0, all_sources pous (k + 1) ps both.1)
 
 pub have_sources : (project : Project) → LinkVerdict project None → Each (λ (p : Pou). AreSources p.body.elements) project.pous
-have_sources project v = all_sources project.pous 0 project.pous (outputs_kept project v)
+have_sources project v = all_sources project.pous 0 project.pous (keeps project v rule.Outputs)

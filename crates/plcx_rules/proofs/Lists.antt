@@ -46,11 +46,11 @@ pub each_never : {A : Type 0} (P : A → Type 0) (before xs : List A) → Never 
 each_never P before [] never = tt
 each_never P before (x ∷ xs) never = (never.0, each_never P (x ∷ before) xs never.1)
 
-or_left : (a b : Bool) → a ≡ true → a || b ≡ true
+pub or_left : (a b : Bool) → a ≡ true → a || b ≡ true
 or_left true b h = refl
 or_left false b h = cc
 
-or_right : (a b : Bool) → b ≡ true → a || b ≡ true
+pub or_right : (a b : Bool) → b ≡ true → a || b ≡ true
 or_right true b h = refl
 or_right false b h = h
 
