@@ -6,6 +6,8 @@ pub mod Links
 pub mod Blocks
 pub mod Kinds
 pub mod Diagrams
+-- what is known of a checked project
+pub mod Checked
 -- Worked examples.
 pub mod Pieces
 pub mod Examples
