@@ -2,3 +2,5 @@ mod Lists
 mod Spelled
 mod Variables
 mod Nests
+mod Along
+mod Places
