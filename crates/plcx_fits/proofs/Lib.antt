@@ -4,3 +4,7 @@ mod Variables
 mod Nests
 mod Along
 mod Places
+mod Pigeons
+mod Bodies
+mod Judged
+mod Ports
