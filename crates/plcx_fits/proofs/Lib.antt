@@ -8,3 +8,5 @@ mod Pigeons
 mod Bodies
 mod Judged
 mod Ports
+mod Agreed
+mod Fixed
