@@ -2,6 +2,8 @@ mod Lists
 mod Spelled
 mod Variables
 mod Nests
+mod Along
+mod Places
 mod Pigeons
 mod Bodies
 mod Judged
@@ -9,4 +11,6 @@ mod Ports
 mod Parts
 mod Fed
 mod Sizes
+mod Agreed
+mod Fixed
 mod Joined

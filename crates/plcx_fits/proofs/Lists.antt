@@ -1,5 +1,5 @@
 -- Lists: pairs, tests that none passes, and names that differ.
-use Rattle.std.proofs.Common.{◌≡◌, ◌≢◌, ℕ, zero, suc, Bool, true, false, List, [], ◌∷◌, map, Some, None, slice_get, refl, subst, arith}
+use Rattle.std.proofs.Common.{◌≡◌, ◌≢◌, ℕ, zero, suc, ◌<◌, Bool, true, false, cond, List, [], ◌∷◌, ◌++◌, map, length, Option, Some, None, slice_get, refl, sym, ap, subst, arith}
 use Rattle.std.specs.Prelude.{AllPairs}
 use Rattle.std.specs.List.{list_any, find, Contains}
 use Rattle.std.specs.Str.{bytes_eq}
@@ -46,3 +46,7 @@ pub each_place : {A : Type 0} (P : A → Type 0) (xs : List A) (i : ℕ) (x : A)
 each_place P [] i x at h = absurd (cc)
 each_place P (y ∷ ys) zero x at h = let same : y ≡ x = cc in subst P same h.0
 each_place P (y ∷ ys) (suc i) x at h = each_place P ys i x at h.1
+
+pub length_mapped : {A B : Type 0} (f : A → B) (xs : List A) → length (map f xs) ≡ length xs
+length_mapped f [] = refl
+length_mapped f (x ∷ xs) = ap suc (length_mapped f xs)
