@@ -1,0 +1,16 @@
+mod Lists
+mod Spelled
+mod Variables
+mod Nests
+mod Along
+mod Places
+mod Pigeons
+mod Bodies
+mod Judged
+mod Ports
+mod Parts
+mod Fed
+mod Sizes
+mod Agreed
+mod Fixed
+mod Joined
