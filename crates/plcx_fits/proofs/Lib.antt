@@ -10,3 +10,9 @@ mod Judged
 mod Ports
 mod Agreed
 mod Fixed
+mod Held
+mod Named
+mod Given
+mod Suited
+mod Wired
+mod Outputs
