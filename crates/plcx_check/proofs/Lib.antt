@@ -1,1 +1,2 @@
--- lemmas
+mod Planning
+mod Verdicts

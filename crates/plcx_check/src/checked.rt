@@ -11,17 +11,17 @@ pub struct Checked {
     links: Links,
     types: Types,
     plan: Plan,
-    ghost checked: { IsChecked project links types plan },
+    ghost checked: { ∥ IsChecked project links types plan ∥₁ },
 }
 
 impl Checked {
     /// Joins a project and what was found out about it.
     pub(crate) fn new(project: Project, links: Links, types: Types, plan: Plan) -> Checked
-        requires { IsChecked project.entry links.entry types.entry plan.entry }
-        ensures project { result.project ≡ project.entry }
-        ensures links { result.links ≡ links.entry }
-        ensures types { result.types ≡ types.entry }
-        ensures plan { result.plan ≡ plan.entry }
+        requires { IsChecked project links types plan }
+        ensures project { result.project ≡ project }
+        ensures links { result.links ≡ links }
+        ensures types { result.types ≡ types }
+        ensures plan { result.plan ≡ plan }
     {
         Checked {
             project,

@@ -6,6 +6,8 @@
 mod checked;
 mod error;
 mod plans;
+mod verdict;
 
 pub use checked::Checked;
 pub use error::CheckError;
+pub use verdict::check;

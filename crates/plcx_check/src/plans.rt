@@ -12,11 +12,7 @@ use sqlite_items::Items;
 use std::alloc::Global;
 
 /// The plan of one body.
-fn body_plan(
-    alloc: Global,
-    body: &Body,
-    sources: &[Items<Source>],
-) -> Result<BodyPlan, NoMemory>
+fn body_plan(alloc: Global, body: &Body, sources: &[Items<Source>]) -> Result<BodyPlan, NoMemory>
     requires { HasGraph body.now.elements sources.now }
     ensures { IfOk result (λ plan. IsBodyPlan (body_graph body.now.elements sources.now) plan) }
 {

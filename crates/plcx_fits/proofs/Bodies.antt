@@ -1,10 +1,9 @@
 -- The elements of a body in its diagram, and how many networks there are.
-use Rattle.std.proofs.Common.{◌≡◌, ◌≢◌, ℕ, zero, suc, ◌+◌, ◌<◌, ◌≤◌, ◌^◌, ◌⊎◌, inl, inr, Bool, true, false, List, [], ◌∷◌, map, length, Option, Some, None, get_or, drop, refl, sym, ap, ◌∙◌, subst, arith}
+use Rattle.std.proofs.Common.{◌≡◌, ℕ, zero, suc, ◌+◌, ◌<◌, ◌≤◌, ◌⊎◌, inl, inr, Bool, true, false, List, [], ◌∷◌, map, length, get_or, drop, refl, sym, ap, ◌∙◌, subst, arith}
 use Rattle.std.specs.Prelude.{nat_eq}
 use Rattle.std.specs.List.{list_any, range_with_len}
-use Rattle.std.specs.Ordering.{ordering_then, nat_cmp, int_cmp}
-use Rattle.std.specs.declared.cmp.Ordering.{Ordering}
-use Rattle.std.specs.declared.cmp.Ordering.TheVariants.{Less, Equal, Greater}
+use Rattle.std.specs.Ordering.{nat_cmp}
+use Rattle.std.specs.declared.cmp.Ordering.TheVariants.{Less, Equal}
 use Rattle.std.proofs.lemmas.Bool.{and_from, not_from_false, or_from, ne_eqb, eqb-true, eq-eqb, cases_eq}
 use Rattle.std.proofs.lemmas.List.{length-map}
 use Rattle.plcx_types.specs.Limits.{max_elements}
@@ -12,23 +11,20 @@ use Rattle.plcx_types.specs.Lists.{Each}
 use Rattle.plcx_meaning.specs.Base.{all_differ}
 use Rattle.plcx_meaning.specs.Diagram.{DiagramElement}
 use Rattle.plcx_meaning.specs.Diagram as diagram
-use Rattle.plcx_meaning.proofs.Lists.{each_weaker}
 use Rattle.plcx_model.specs.declared.body.BodyElement.{BodyElement}
 use Rattle.plcx_model.specs.declared.key.Key.{Key}
 use Rattle.plcx_model.specs.declared.plan.BodyPlan.{BodyPlan}
 use Rattle.plcx_model.specs.declared.project.Pou.{Pou}
-use Rattle.plcx_model.specs.Graph.{Graph, elements, key_at, takes_part, TakesPart, PlaceBefore}
+use Rattle.plcx_model.specs.Graph.{Graph, key_at}
 use Rattle.plcx_model.specs.Keys.{place_cmp}
 use Rattle.plcx_model.specs.Networks.{Listed, IsNetwork, ComesBefore, AreInOrder, AreNetworks}
-use Rattle.plcx_model.specs.Numbering.{pins_of, kind_takes_part, LocalIdsDiffer, HasGraph}
+use Rattle.plcx_model.specs.Numbering.{pins_of, kind_takes_part, LocalIdsDiffer}
 use Rattle.plcx_model.specs.Orders.{AreOrders}
 use Rattle.plcx_model.specs.Paths.{Reaches, IsPath, IsLink}
 use Rattle.plcx_model.specs.Sound.{PouIsSound}
-use Rattle.plcx_rules.specs.Sources.{sources_in}
 use Rattle.plcx_view.specs.Checked.{IsBodyPlan, graph_of_pou}
 use Rattle.plcx_view.specs.Pins.{Pin}
 use Rattle.plcx_view.specs.Diagrams.{elements_from, without_networks, with_fed, elements_of, network_of}
-use Rattle.plcx_fits.proofs.Lists.{none_pass}
 use Rattle.plcx_fits.proofs.Pigeons.{Has, Differ, no_longer}
 
 -- ---- ids
@@ -119,15 +115,14 @@ ones g (network ∷ networks) each = each.0.one ∷ ones g networks each.1
 apart_from : (g : Graph) (network : List ℕ) (is : IsNetwork g network) (others : List (List ℕ)) (each : Each (IsNetwork g) others) → Each (ComesBefore g network) others → Each (λ v. nat_eq is.one v ≡ false) (ones g others each)
 unfolding one_of
 apart_from g network is [] each before = tt
-apart_from g network is (other ∷ others) each before =
-    (
-      ne_eqb is.one each.0.one (λ same.
-          let here = (one_of g network is).1 in
-          let there = subst (Listed other) (sym same) (one_of g other each.0).1 in
-          let first = before.0 in
-          not_before (key_at g first.least) (first.before first.least (shared g network other is.one first.least is each.0 here there first.there))),
-      apart_from g network is others each.1 before.1,
-    )
+apart_from g network is (other ∷ others) each before = (
+  ne_eqb is.one each.0.one (λ same.
+      let here = (one_of g network is).1 in
+      let there = subst (Listed other) (sym same) (one_of g other each.0).1 in
+      let first = before.0 in
+      not_before (key_at g first.least) (first.before first.least (shared g network other is.one first.least is each.0 here there first.there))),
+  apart_from g network is others each.1 before.1,
+)
 
 ones_differ : (g : Graph) (networks : List (List ℕ)) (each : Each (IsNetwork g) networks) → AreInOrder g networks → Differ nat_eq eqb-true (λ n. eq-eqb n n refl) (ones g networks each)
 ones_differ g [] each order = tt

@@ -8,6 +8,9 @@ mod Pigeons
 mod Bodies
 mod Judged
 mod Ports
+mod Parts
+mod Fed
+mod Sizes
 mod Agreed
 mod Fixed
 mod Held
@@ -16,3 +19,4 @@ mod Given
 mod Suited
 mod Wired
 mod Outputs
+mod Joined

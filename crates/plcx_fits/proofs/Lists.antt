@@ -1,12 +1,12 @@
 -- Lists: pairs, tests that none passes, and names that differ.
 use Rattle.std.proofs.Common.{◌≡◌, ◌≢◌, ℕ, zero, suc, ◌<◌, Bool, true, false, cond, List, [], ◌∷◌, ◌++◌, map, length, Option, Some, None, slice_get, refl, sym, ap, subst, arith}
 use Rattle.std.specs.Prelude.{AllPairs}
-use Rattle.std.specs.List.{list_any, find, Contains, flat_map}
+use Rattle.std.specs.List.{list_any, find, Contains}
 use Rattle.std.specs.Str.{bytes_eq}
 use Rattle.std.proofs.lemmas.Bool.{or_parts, or_from}
 use Rattle.plcx_types.specs.Lists.{Each}
 use Rattle.plcx_meaning.specs.Base.{are_distinct}
-use Rattle.plcx_meaning.proofs.Lists.{IsNew, distinct_from, contains_first, contains_later}
+use Rattle.plcx_meaning.proofs.Lists.{distinct_from, contains_first, contains_later}
 use Rattle.plcx_meaning.proofs.Names.{bytes_apart}
 
 -- what holds of each pair holds of the first and each other, and of the others

@@ -1,9 +1,9 @@
 -- Levels of blocks below a POU, and its leaves.
-use Rattle.std.proofs.Common.{◌≡◌, ◌≢◌, ℕ, zero, suc, ◌+◌, Bool, true, false, List, [], ◌∷◌, ◌++◌, map, length, Option, Some, None, slice_get, refl, sym, ap, ap₂, ◌∙◌, subst, arith, if◌then◌else◌}
-use Rattle.std.specs.Prelude.{is_some, ◌≤◌}
+use Rattle.std.proofs.Common.{◌≡◌, ℕ, zero, suc, Bool, true, List, [], ◌∷◌, ◌++◌, map, length, Option, Some, None, refl, sym, ap, ◌∙◌, subst, arith, if◌then◌else◌}
+use Rattle.std.specs.Prelude.{◌≤◌}
 use Rattle.std.specs.List.{flat_map, sum_by}
 use Rattle.std.proofs.lemmas.List.{length-append}
-use Rattle.std.proofs.lemmas.List.Sums.{sum_by-append, sum_by-cons}
+use Rattle.std.proofs.lemmas.List.Sums.{sum_by-cons}
 use Rattle.plcx_types.specs.declared.ty.Ty.{Ty}
 use Rattle.plcx_types.specs.Limits.{max_instance_chain, max_leaves}
 use Rattle.plcx_types.specs.Lists.{Each}
@@ -22,7 +22,7 @@ use Rattle.plcx_meaning.specs.Layout as layout
 use Rattle.plcx_meaning.specs.Standard.{pin_blocks}
 use Rattle.plcx_meaning.specs.Tree as tree
 use Rattle.plcx_meaning.proofs.Lists.{each_weaker}
-use Rattle.plcx_meaning.proofs.Lookups.{each_found, map_append}
+use Rattle.plcx_meaning.proofs.Lookups.{each_found}
 use Rattle.plcx_meaning.proofs.LookupsOwn.{type_of_name, elementary_meaning, composed_meaning}
 use Rattle.plcx_model.specs.declared.plan.Links.{Links}
 use Rattle.plcx_model.specs.declared.plan.Types.{Types}
@@ -118,10 +118,10 @@ module _ (project : Project) (links : Links) (types : Types) (plan : Plan) (soun
   levels : (n : ℕ) (p : Pou) → PouIsSound pous p → Each (λ (v : Variable). Nests pous n v.ty) (variables_of p) → Each (HasLevels n) (layout.variables_of (lists_of pous p))
   levels n p s nests =
       each_shown pous (HasLevels n) (λ (l : VarList). ListIsSound pous p.kind l × Each (λ (v : Variable). Nests pous n v.ty) l.variables) p.lists
-          (λ l h. each_weaker (λ (v : Variable). VariableIsSound pous l v × Nests pous n v.ty) (λ (v : Variable). HasLevels n (shown pous l v)) l.variables
-              (λ v both. record { t = v.ty; spelled = refl; known = both.0.known; nests = both.1 })
-              (both_of (VariableIsSound pous l) (λ (v : Variable). Nests pous n v.ty) l.variables h.0.variables h.1))
-          (both_of (ListIsSound pous p.kind) (λ (l : VarList). Each (λ (v : Variable). Nests pous n v.ty) l.variables) p.lists s.lists (over_lists (λ (v : Variable). Nests pous n v.ty) p.lists nests))
+      (λ l h. each_weaker (λ (v : Variable). VariableIsSound pous l v × Nests pous n v.ty) (λ (v : Variable). HasLevels n (shown pous l v)) l.variables
+      (λ v both. record { t = v.ty; spelled = refl; known = both.0.known; nests = both.1 })
+      (both_of (VariableIsSound pous l) (λ (v : Variable). Nests pous n v.ty) l.variables h.0.variables h.1))
+      (both_of (ListIsSound pous p.kind) (λ (l : VarList). Each (λ (v : Variable). Nests pous n v.ty) l.variables) p.lists s.lists (over_lists (λ (v : Variable). Nests pous n v.ty) p.lists nests))
 
   block_level : (n : ℕ) (v : layout.Variable) (t : VarTy) → v.ty ≡ spelled_type pous t → IsKnown pous t → Nests pous n t → type_named v.ty ≡ None → kind_named v.ty ≡ None
       → (m : ℕ) × (n ≡ suc m) × (place : ℕ) × (q : Pou) × IsBlock project links types plan sound place q × (v.ty ≡ spelled_type pous (Block place)) × Each (λ (w : Variable). Nests pous m w.ty) (variables_of q)
@@ -139,8 +139,7 @@ module _ (project : Project) (links : Links) (types : Types) (plan : Plan) (soun
       let h = each_found (HasLevels (suc n)) x (layout.variables_of (lists_of pous p)) v (levels (suc n) p s nests) named in
       let b = block_level (suc n) v h.t h.spelled h.known h.nests none other in
       let same : b.0 ≡ n = (let e : suc n ≡ suc b.0 = b.1 in omega arith) in
-      let block = b.4 in
-      (
+      let block = b.4 in (
         seen project links types plan b.2 b.3,
         ap (λ name. block_named name dia) b.5 ∙ block.found,
         pou_nests n b.2 b.3 block.keeps (subst (λ m. Each (λ (w : Variable). Nests pous m w.ty) (variables_of b.3)) same b.6),
@@ -235,12 +234,12 @@ module _ (project : Project) (links : Links) (types : Types) (plan : Plan) (soun
           append_three [] b c = refl
           append_three (x ∷ a) b c = ap (λ rest. x ∷ rest) (append_three a b c)
 
-  nested : (n : ℕ) (p : Pou) → PouIsSound pous p → Each (λ (v : Variable). Nests pous n v.ty) (variables_of p) → Each (λ (l : VarList). Each (λ (v : Variable). IsKnown pous v.ty × Nests pous n v.ty) l.variables) p.lists
+  pub nested : (n : ℕ) (p : Pou) → PouIsSound pous p → Each (λ (v : Variable). Nests pous n v.ty) (variables_of p) → Each (λ (l : VarList). Each (λ (v : Variable). IsKnown pous v.ty × Nests pous n v.ty) l.variables) p.lists
   nested n p s nests =
       each_weaker (λ (l : VarList). ListIsSound pous p.kind l × Each (λ (v : Variable). Nests pous n v.ty) l.variables) (λ (l : VarList). Each (λ (v : Variable). IsKnown pous v.ty × Nests pous n v.ty) l.variables) p.lists
-          (λ l h. each_weaker (λ (v : Variable). VariableIsSound pous l v × Nests pous n v.ty) (λ (v : Variable). IsKnown pous v.ty × Nests pous n v.ty) l.variables (λ v both. (both.0.known, both.1))
-              (both_of (VariableIsSound pous l) (λ (v : Variable). Nests pous n v.ty) l.variables h.0.variables h.1))
-          (both_of (ListIsSound pous p.kind) (λ (l : VarList). Each (λ (v : Variable). Nests pous n v.ty) l.variables) p.lists s.lists (over_lists (λ (v : Variable). Nests pous n v.ty) p.lists nests))
+      (λ l h. each_weaker (λ (v : Variable). VariableIsSound pous l v × Nests pous n v.ty) (λ (v : Variable). IsKnown pous v.ty × Nests pous n v.ty) l.variables (λ v both. (both.0.known, both.1))
+      (both_of (VariableIsSound pous l) (λ (v : Variable). Nests pous n v.ty) l.variables h.0.variables h.1))
+      (both_of (ListIsSound pous p.kind) (λ (l : VarList). Each (λ (v : Variable). Nests pous n v.ty) l.variables) p.lists s.lists (over_lists (λ (v : Variable). Nests pous n v.ty) p.lists nests))
 
   pub leaves_counted : (n : ℕ) → CountsLeaves n
   leaves_counted zero c world names p s nests = lists_of_leaves zero (λ m e. absurd (omega arith)) c world names p.lists (nested zero p s nests)

@@ -1,10 +1,10 @@
 -- The outputs of an element of a diagram: their names, and those that feed back.
-use Rattle.std.proofs.Common.{◌≡◌, ◌≢◌, ℕ, zero, suc, ◌+◌, ◌<◌, ◌≤◌, ◌^◌, Bool, true, false, cond, List, [], ◌∷◌, ◌++◌, map, filter, length, Option, Some, None, slice_get, refl, sym, ap, ap₂, ◌∙◌, subst, arith, if◌then◌else◌}
-use Rattle.std.specs.Prelude.{not, ◌&&◌, ◌||◌, is_none, codes, nat_lt, nat_le, nat_eq, slice_index}
+use Rattle.std.proofs.Common.{◌≡◌, ℕ, ◌≤◌, Bool, true, false, cond, List, [], ◌∷◌, ◌++◌, map, filter, length, Option, Some, None, slice_get, refl, sym, ap, ap₂, ◌∙◌, subst, arith, if◌then◌else◌}
+use Rattle.std.specs.Prelude.{not, ◌&&◌, ◌||◌, is_none, codes, nat_lt, nat_le, slice_index}
 use Rattle.std.specs.List.{list_any, list_all, find, filter_map, cons_option, flat_map}
 use Rattle.std.specs.Option.{option_map}
 use Rattle.std.specs.Str.{bytes_eq}
-use Rattle.std.proofs.lemmas.Bool.{and_parts, or_parts, or_from, cases_Bool}
+use Rattle.std.proofs.lemmas.Bool.{and_parts, or_parts, or_from}
 use Rattle.plcx_types.specs.declared.ty.Ty.{Ty}
 use Rattle.plcx_types.specs.declared.ty.Ty.TheVariants as ty
 use Rattle.plcx_types.specs.Limits.{max_name_bytes}
@@ -16,17 +16,15 @@ use Rattle.plcx_std.specs.declared.pin.Role.TheVariants as role
 use Rattle.plcx_meaning.specs.Base.{are_distinct}
 use Rattle.plcx_meaning.specs.Diagram.{Enable, OutputPin, ElementKind, Port, port, ports, has_eno, eno_ports, output_ports, is_fed, link_reads_back, links_of, DiagramElement, Link}
 use Rattle.plcx_meaning.specs.Diagram as diagram
-use Rattle.plcx_meaning.specs.Fits.{IsPin, PortsFit}
+use Rattle.plcx_meaning.specs.Fits.{IsPin}
 use Rattle.plcx_meaning.proofs.Lists.{each_weaker, each_map, each_append, IsNew, distinct_from}
-use Rattle.plcx_meaning.proofs.Names.{bytes_same, bytes_apart, same_bytes, bytes_swapped}
+use Rattle.plcx_meaning.proofs.Names.{bytes_same, bytes_swapped}
 use Rattle.plcx_model.specs.declared.body.PinIn.{PinIn}
 use Rattle.plcx_model.specs.declared.body.PinOut.{PinOut}
 use Rattle.plcx_model.specs.declared.body.Kind.{Kind}
 use Rattle.plcx_model.specs.declared.body.Kind.TheVariants as kind
-use Rattle.plcx_model.specs.declared.body.BodyElement.{BodyElement}
 use Rattle.plcx_model.specs.declared.project.ListClass.{ListClass}
 use Rattle.plcx_model.specs.declared.project.ListClass.TheVariants.{Output}
-use Rattle.plcx_model.specs.declared.project.VarTy.{VarTy}
 use Rattle.plcx_model.specs.declared.project.Variable.{Variable}
 use Rattle.plcx_model.specs.declared.project.VarList.{VarList}
 use Rattle.plcx_model.specs.declared.project.Pou.{Pou}
@@ -35,13 +33,13 @@ use Rattle.plcx_rules.specs.declared.callee.Callee.{Callee}
 use Rattle.plcx_rules.specs.declared.callee.Callee.TheVariants as callee
 use Rattle.plcx_rules.specs.Texts.{same_name}
 use Rattle.plcx_rules.specs.Declarations.{Declaration, declared_in, declarations_of, plain_type, same_class}
-use Rattle.plcx_rules.specs.Callees.{BlockPin, standard_pins, pin_of, block_pins, pins_where, block_pins_at, Formal, fixed, enabled, outputs_of, formal_named, is_enable, is_eno, output_name, is_function, output_formal, callee_named}
+use Rattle.plcx_rules.specs.Callees.{BlockPin, standard_pins, pin_of, pins_where, Formal, fixed, enabled, outputs_of, formal_named, is_eno, output_name, is_function, output_formal, callee_named}
 use Rattle.plcx_rules.specs.Helds.{Held, OfLiteral, OfVariable, OfInstance, OfOutput, text_held}
 use Rattle.plcx_rules.specs.LinkRules.{has_double, outputs_fail}
 use Rattle.plcx_view.specs.Pins.{Pin}
 use Rattle.plcx_view.specs.Operands.{reading_by}
 use Rattle.plcx_view.specs.Links.{declared_name}
-use Rattle.plcx_view.specs.Blocks.{Wired, beside, enable_of, output_pin, call_by, block_by, function_by, function_links, among, is_negated}
+use Rattle.plcx_view.specs.Blocks.{Wired, beside, enable_of, output_pin, call_by, block_by}
 use Rattle.plcx_view.specs.Kinds.{kind_of}
 use Rattle.plcx_view.specs.Diagrams.{with_fed}
 use Rattle.plcx_fits.proofs.Lists.{each_place}
@@ -129,9 +127,9 @@ good_declarations pous q s = flat q.lists s.lists
     flat [] all = tt
     flat (l ∷ lists) all =
         each_append IsGoodDeclaration (declared_in l) (flat_map declared_in lists)
-            (each_map IsGoodDeclaration (λ (v : Variable). let d : Declaration = record { class = l.class; constant = l.constant; variable = v } in d) l.variables
-                (each_weaker (VariableIsSound pous l) (λ (v : Variable). (list_all is_next_byte v.name ≡ true) × (length v.name ≤ 64)) l.variables (λ v h. (good_name v.name h.name.identifier, h.name.short)) all.0.variables))
-            (flat lists all.1)
+        (each_map IsGoodDeclaration (λ (v : Variable). let d : Declaration = record { class = l.class; constant = l.constant; variable = v } in d) l.variables
+        (each_weaker (VariableIsSound pous l) (λ (v : Variable). (list_all is_next_byte v.name ≡ true) × (length v.name ≤ 64)) l.variables (λ v h. (good_name v.name h.name.identifier, h.name.short)) all.0.variables))
+        (flat lists all.1)
 
 good_pins : (c : ListClass) (ds : List Declaration) → Each IsGoodDeclaration ds → Each IsGood (map fixed (filter_map pin_of (filter (λ (d : Declaration). same_class d.class c) ds)))
 good_pins c [] all = tt
@@ -234,8 +232,7 @@ pins_of_outputs : (pous : List Pou) (c : Callee) (outputs : List PinOut) (os : L
 pins_of_outputs pous c outputs [] all = (refl, tt)
 pins_of_outputs pous c outputs (o ∷ os) all =
     let rest = pins_of_outputs pous c outputs os all.1 in
-    let one = all.0 in
-    (
+    let one = all.0 in (
       ap₂ (λ (x : List ℕ) (xs : List (List ℕ)). x ∷ xs) (ap in_lower_case one.is ∙ one.same) rest.0,
       (subst (λ (n : List ℕ). (list_all is_next_byte n ≡ true) × (length n ≤ 64)) (sym one.is) one.good, rest.1),
     )

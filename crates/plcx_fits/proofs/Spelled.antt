@@ -1,12 +1,11 @@
 -- The POUs of a diagram by their names, and what the names of types stand for there.
-use Rattle.std.proofs.Common.{◌≡◌, ◌≢◌, ℕ, zero, suc, ◌+◌, Bool, true, false, cond, List, [], ◌∷◌, map, Option, Some, None, slice_get, get_or, refl, sym, ap, ap₂, ◌∙◌, subst, arith, if◌then◌else◌}
+use Rattle.std.proofs.Common.{◌≡◌, ℕ, zero, suc, ◌+◌, Bool, true, false, cond, List, [], ◌∷◌, map, Option, Some, None, slice_get, get_or, refl, sym, ap, ap₂, ◌∙◌, subst, arith, if◌then◌else◌}
 use Rattle.std.specs.Prelude.{not, ◌&&◌, ◌||◌}
-use Rattle.std.specs.List.{list_any, find, Contains}
 use Rattle.std.specs.Str.{bytes_eq, str_eq_ignore_ascii_case}
 use Rattle.std.proofs.lemmas.Bool.{or_parts}
 use Rattle.plcx_types.specs.declared.ty.Ty.{Ty}
 use Rattle.plcx_types.specs.Name.{in_lower_case, in_upper_case}
-use Rattle.plcx_types.specs.Reserved.{is_in, keywords, enables, functions, blocks, is_conversion, is_listed, is_own, is_of_library, is_reserved, is_keyword}
+use Rattle.plcx_types.specs.Reserved.{is_in, enables, functions, blocks, is_conversion, is_listed, is_own, is_of_library, is_reserved, is_keyword}
 use Rattle.plcx_types.specs.TypeName.{all_types, type_name, type_named}
 use Rattle.plcx_types.specs.declared.ty.Ty.TheVariants as ty
 use Rattle.plcx_std.specs.declared.kind.StdKind.{StdKind}
@@ -15,21 +14,15 @@ use Rattle.plcx_std.specs.Kind.{all_kinds, kind_name, kind_named}
 use Rattle.plcx_meaning.specs.Base.{are_distinct}
 use Rattle.plcx_meaning.specs.Diagram.{is_program, block_named}
 use Rattle.plcx_meaning.specs.Diagram as diagram
-use Rattle.plcx_meaning.specs.Fits.{project_knows, printed_type}
-use Rattle.plcx_meaning.specs.Tree as tree
 use Rattle.plcx_meaning.proofs.Lists.{distinct_parts, none_passes, contains_map}
 use Rattle.plcx_meaning.proofs.Names.{bytes_self, folded_twice}
-use Rattle.plcx_meaning.proofs.LookupsOwn.{type_of_name}
 use Rattle.plcx_model.specs.declared.plan.Links.{Links}
 use Rattle.plcx_model.specs.declared.plan.Types.{Types}
 use Rattle.plcx_model.specs.declared.plan.Plan.{Plan}
 use Rattle.plcx_model.specs.declared.project.PouKind.TheVariants.{FunctionBlock}
-use Rattle.plcx_model.specs.declared.project.VarTy.{VarTy}
-use Rattle.plcx_model.specs.declared.project.VarTy.TheVariants.{Plain, Std, Block}
 use Rattle.plcx_model.specs.declared.project.Pou.{Pou}
 use Rattle.plcx_model.specs.declared.project.Project.{Project}
-use Rattle.plcx_model.specs.Sound.{IsKnown}
-use Rattle.plcx_view.specs.Declared.{kind_of_pou, name_at, spelled_type}
+use Rattle.plcx_view.specs.Declared.{kind_of_pou}
 use Rattle.plcx_view.specs.Diagrams.{pou_of, no_plan, pous_from, diagrams_of}
 use Rattle.plcx_fits.proofs.Lists.{not_found, any_mapped, contains_at}
 
@@ -111,7 +104,7 @@ module _ (project : Project) (links : Links) (types : Types) (plan : Plan) where
   found_from i (p ∷ ps) zero q at block distinct =
       let same : p ≡ q = cc in
       subst (λ (r : Pou). r.kind ≡ FunctionBlock → block_named r.name (pous_from project links types plan i (p ∷ ps)) ≡ Some (seen (i + 0) r)) same
-          (λ e. by (not (is_program (kind_of_pou p.kind))) (bytes_eq (in_lower_case p.name) (in_lower_case p.name)) (rw e refl) (bytes_self (in_lower_case p.name))) block
+      (λ e. by (not (is_program (kind_of_pou p.kind))) (bytes_eq (in_lower_case p.name) (in_lower_case p.name)) (rw e refl) (bytes_self (in_lower_case p.name))) block
     where
       by : (b c : Bool) → b ≡ true → c ≡ true → cond (b && c) (Some (seen i p)) (block_named p.name (pous_from project links types plan (i + 1) ps)) ≡ Some (seen (i + 0) p)
       by true true e f = let zero_more : i ≡ i + 0 = omega arith in ap (λ j. Some (seen j p)) zero_more

@@ -1,5 +1,5 @@
 -- The variables of a POU in its diagram.
-use Rattle.std.proofs.Common.{◌≡◌, ◌≢◌, ℕ, suc, Bool, true, false, List, [], ◌∷◌, ◌++◌, map, length, Option, Some, None, slice_get, refl, sym, ap, ◌∙◌, subst, if◌then◌else◌}
+use Rattle.std.proofs.Common.{◌≡◌, ◌≢◌, ℕ, Bool, true, false, List, [], ◌∷◌, ◌++◌, map, length, Option, Some, None, slice_get, refl, sym, ap, ◌∙◌, subst, if◌then◌else◌}
 use Rattle.std.specs.Prelude.{◌||◌, is_some, ◌≤◌}
 use Rattle.std.specs.Char.{to_ascii_uppercase}
 use Rattle.std.specs.List.{flat_map, Contains}
@@ -38,7 +38,7 @@ use Rattle.plcx_model.specs.declared.project.VarList.{VarList}
 use Rattle.plcx_model.specs.declared.project.Pou.{Pou}
 use Rattle.plcx_model.specs.declared.project.Project.{Project}
 use Rattle.plcx_model.specs.Sound.{variables_of, IsKnown, MayHold, InitialSuits, AddressSuits, VariableIsSound, ListIsSound, PouIsSound, Sound}
-use Rattle.plcx_view.specs.Declared.{kind_of_pou, class_of, mark_by, mark_of, name_at, spelled_type, declaration_of, list_of, lists_of}
+use Rattle.plcx_view.specs.Declared.{kind_of_pou, class_of, mark_by, mark_of, spelled_type, declaration_of, list_of, lists_of}
 use Rattle.plcx_fits.proofs.Lists.{names_distinct, each_place}
 use Rattle.plcx_fits.proofs.Spelled.{no_type, no_kind, kind_of_name, upper_types, names_of, seen, whole, block_found}
 
@@ -51,11 +51,11 @@ pub each_shown : (pous : List Pou) (P : layout.Variable → Type 0) (Q : VarList
     → Each Q lists → Each P (layout.variables_of (map (list_of pous) lists))
 each_shown pous P Q lists gives all =
     each_flat_map P block_variables (map (list_of pous) lists)
-        (each_map (λ (b : tree.Block). Each P (block_variables b)) (list_of pous) lists
-            (each_weaker Q (λ (l : VarList). Each P (block_variables (list_of pous l))) lists
-                (λ l q. each_map P (layout.variable (class_of l.class) (mark_of l)) (map (declaration_of pous) l.variables)
-                    (each_map (λ (d : tree.Declaration). P (layout.variable (class_of l.class) (mark_of l) d)) (declaration_of pous) l.variables (gives l q)))
-                all))
+    (each_map (λ (b : tree.Block). Each P (block_variables b)) (list_of pous) lists
+    (each_weaker Q (λ (l : VarList). Each P (block_variables (list_of pous l))) lists
+    (λ l q. each_map P (layout.variable (class_of l.class) (mark_of l)) (map (declaration_of pous) l.variables)
+    (each_map (λ (d : tree.Declaration). P (layout.variable (class_of l.class) (mark_of l) d)) (declaration_of pous) l.variables (gives l q)))
+    all))
 
 -- names without case are those of the file
 mapped_twice : (pous : List Pou) (l : VarList) (vs : List Variable) → map (λ (v : layout.Variable). in_lower_case v.name) (map (layout.variable (class_of l.class) (mark_of l)) (map (declaration_of pous) vs)) ≡ map (λ (v : Variable). in_lower_case v.name) vs
@@ -211,14 +211,13 @@ module _ (project : Project) (links : Links) (types : Types) (plan : Plan) (soun
   in_out_list : (k : PouKind) (l : VarList) → ListIsSound pous k l → InOutsFit (kind_of_pou k) (list_of pous l)
   in_out_list k l s is_in_out =
       let c = in_out_class l.class is_in_out in
-      let marks = s.in_out_marks c in
-      (
+      let marks = s.in_out_marks c in (
         no_mark l.constant l.retain marks.0 marks.1,
         each_map (λ (d : tree.Declaration). (kind_of_pou k ≢ tree.Program) × (d.address ≡ None) × (d.initial ≡ None)) (declaration_of pous) l.variables
             (each_from _ l.variables (λ v there.
-                let one = each_at (VariableIsSound pous l) l.variables v s.variables there in
-                let both = one.in_out c in
-                ((λ program. contains_none v (subst (λ vs. Contains vs v) (s.in_outs c (is_program_kind k program)) there)), both.0, both.1))),
+            let one = each_at (VariableIsSound pous l) l.variables v s.variables there in
+            let both = one.in_out c in
+            ((λ program. contains_none v (subst (λ vs. Contains vs v) (s.in_outs c (is_program_kind k program)) there)), both.0, both.1))),
       )
 
   pub in_outs_fit : (p : Pou) → PouIsSound pous p → Each (InOutsFit (kind_of_pou p.kind)) (lists_of pous p)
@@ -230,6 +229,6 @@ module _ (project : Project) (links : Links) (types : Types) (plan : Plan) (soun
   pub addresses_fit : (p : Pou) → PouIsSound pous p → Each AddressesFit (lists_of pous p)
   addresses_fit p s = each_map AddressesFit (list_of pous) p.lists
       (each_weaker (ListIsSound pous p.kind) (λ (l : VarList). AddressesFit (list_of pous l)) p.lists
-          (λ l h. each_map (λ (d : tree.Declaration). AddressFits d.address) (declaration_of pous) l.variables
-              (each_weaker (VariableIsSound pous l) (λ (v : Variable). AddressFits v.address) l.variables (λ v one. address_fits v.address one.address) h.variables))
-          s.lists)
+      (λ l h. each_map (λ (d : tree.Declaration). AddressFits d.address) (declaration_of pous) l.variables
+      (each_weaker (VariableIsSound pous l) (λ (v : Variable). AddressFits v.address) l.variables (λ v one. address_fits v.address one.address) h.variables))
+      s.lists)

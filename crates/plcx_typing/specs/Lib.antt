@@ -1,1 +1,5 @@
 pub mod Closure
+pub mod Sheets
+pub mod Flows
+pub mod Tests
+pub mod Faults

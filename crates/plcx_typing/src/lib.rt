@@ -2,3 +2,7 @@
 #![tactic(auto)]
 
 mod closure;
+mod faults;
+mod flow;
+mod outputs;
+mod rules;

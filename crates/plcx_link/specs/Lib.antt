@@ -1,0 +1,3 @@
+-- serve proofs alone
+pub mod InProject
+pub mod Bodies

@@ -1,0 +1,23 @@
+//! Names of a project, each looked up in a table: what a name leads to in a POU, what a block's `typeName` is, which
+//! pins it has, what an expression holds, and where a localId, a connector or a label stands in a body.
+//!
+//! Each look-up equals the definition of plcx_rules that it serves.
+#![tactic(auto)]
+
+mod formals;
+mod helds;
+mod owner;
+mod pins;
+mod places;
+mod scope;
+mod tables;
+mod texts;
+mod variables;
+
+pub use helds::{Held, text_held};
+pub use owner::Owner;
+pub use pins::{OwnPin, standard_pin};
+pub use places::Places;
+pub use scope::{Scope, narrow};
+pub use texts::{in_lower_case, same_name, trimmed};
+pub use variables::Declared;
