@@ -13,4 +13,10 @@ mod Fed
 mod Sizes
 mod Agreed
 mod Fixed
+mod Held
+mod Named
+mod Given
+mod Suited
+mod Wired
+mod Outputs
 mod Joined

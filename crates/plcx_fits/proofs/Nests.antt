@@ -152,7 +152,7 @@ module _ (project : Project) (links : Links) (types : Types) (plan : Plan) (soun
       → length (layout.leaves (suc (suc n)) c names (layout.variables_of (lists_of pous p))) ≡ leaves pous (suc n) p
 
   -- the variables of a block in the world of the diagram
-  block_world : (place : ℕ) (q : Pou) → IsBlock project links types plan sound place q → composed (world_of dia) (spelled_type pous (Block place)) ≡ layout.variables_of (lists_of pous q)
+  pub block_world : (place : ℕ) (q : Pou) → IsBlock project links types plan sound place q → composed (world_of dia) (spelled_type pous (Block place)) ≡ layout.variables_of (lists_of pous q)
   block_world place q b =
       let name = spelled_type pous (Block place) in
       let found : block_named (in_lower_case name) dia ≡ Some (seen project links types plan place q) = block_folded name dia ∙ b.found in
