@@ -1,3 +1,4 @@
 pub mod Searching
 pub mod Flowing
 pub mod Deciding
+pub mod Faulting
