@@ -57,8 +57,7 @@ module _ (pous : List Pou) (p : Pou) (tys : List Ty) (marks : List Bool) where
       let first : length (sources_of pin) ≡ length i.input = cc in
       let later : counts_of pins ≡ map length (map (λ (j : PinIn). j.input) is) ++ more = cc in
       let r = zipped u form all is rest more pins (λ j h. among j (contains_later i is j h)) al.1 later in
-      let long = r.3 in
-      (
+      let long = r.3 in (
         (record { stand = al.0; there = among i (contains_first i is); count = sym (length_mapped (λ (f : Feed). f.0) pin.feeds) ∙ first }, r.0),
         r.1,
         r.2,
@@ -66,7 +65,7 @@ module _ (pous : List Pou) (p : Pou) (tys : List Ty) (marks : List Bool) where
       )
 
   module _ (k : ℕ) (keeps : Keeps pous p tys marks k) (u : ℕ) (e : BodyElement) (st : ElementStands pous p tys marks u e) (type_name : List ℕ) (instance : Option (List ℕ)) (inputs in_outs : List PinIn) (outputs : List PinOut)
-           (is : e.kind ≡ kind.Block type_name instance inputs in_outs outputs) (c : Callee) (called : callee_named pous type_name ≡ Some c) where
+      (is : e.kind ≡ kind.Block type_name instance inputs in_outs outputs) (c : Callee) (called : callee_named pous type_name ≡ Some c) where
     abbrev pub input_form : PinIn → Pin
     input_form i = form_pin u (input_class_of pous (Some c) inputs i) i.mods.negated
 
@@ -95,11 +94,11 @@ module _ (pous : List Pou) (p : Pou) (tys : List Ty) (marks : List Bool) where
     pub pins_of_block : PinsOf
     pins_of_block =
         let al : Along (Stands pous p tys marks u) (map input_form inputs ++ map in_out_form in_outs) st.pins =
-          subst (λ fs. Along (Stands pous p tys marks u) fs st.pins) (ap (element_pins pous p u) is ∙ forms_are) st.stand in
+        subst (λ fs. Along (Stands pous p tys marks u) fs st.pins) (ap (element_pins pous p u) is ∙ forms_are) st.stand in
         let counts : counts_of st.pins ≡ map length (map (λ (i : PinIn). i.input) inputs) ++ map length (map (λ (i : PinIn). i.input) in_outs) =
-          ap (map length) st.sources ∙ each_place _ p.body.elements u e st.element keeps.counted ∙ ap source_counts is ∙ map_append length (map (λ (i : PinIn). i.input) inputs) (map (λ (i : PinIn). i.input) in_outs) in
+        ap (map length) st.sources ∙ each_place _ p.body.elements u e st.element keeps.counted ∙ ap source_counts is ∙ map_append length (map (λ (i : PinIn). i.input) inputs) (map (λ (i : PinIn). i.input) in_outs) in
         let a = zipped u input_form inputs inputs (map in_out_form in_outs) (map length (map (λ (i : PinIn). i.input) in_outs)) st.pins (λ i h. h) al counts in
         let b = zipped u in_out_form in_outs in_outs [] [] (drop (length inputs) st.pins) (λ i h. h)
-            (subst (λ fs. Along (Stands pous p tys marks u) fs (drop (length inputs) st.pins)) (sym (nothing_more (map in_out_form in_outs))) a.1)
-            (a.2 ∙ sym (no_more (map length (map (λ (i : PinIn). i.input) in_outs)))) in
+        (subst (λ fs. Along (Stands pous p tys marks u) fs (drop (length inputs) st.pins)) (sym (nothing_more (map in_out_form in_outs))) a.1)
+        (a.2 ∙ sym (no_more (map length (map (λ (i : PinIn). i.input) in_outs)))) in
         record { inputs_stand = a.0; in_outs_stand = b.0; long = a.3; more = b.3 }

@@ -8,7 +8,6 @@ ghost use Rattle.plcx_rules.specs.Declarations.{plain_type, same_class};
 ghost use Rattle.plcx_rules.specs.Helds.{name_held, member_held, held_in, text_held};
 ghost use Rattle.plcx_names.specs.Seen.{declared_as};
 ghost use Rattle.plcx_names.specs.SeenHelds.{can_be_written, held_declared, held_as};
-
 ghost use Rattle.plcx_names.specs.Holdings.{text_holding};
 
 use crate::owner::Owner;
@@ -224,4 +223,3 @@ pub fn text_holding(
         Some(Held::Variable { writable, .. }) => Ok(holding_of(true, true, true, writable)),
     }
 }
-
