@@ -57,7 +57,7 @@ block_pins inputs in_outs =
     let both = length-append (map (λ (p : PinIn). p.input) inputs) (map (λ (p : PinIn). p.input) in_outs) in
     both ∙ (ap (λ n. n + length (map (λ (p : PinIn). p.input) in_outs)) (length_map (λ (p : PinIn). p.input) inputs) ∙ ap (λ n. length inputs + n) (length_map (λ (p : PinIn). p.input) in_outs))
 
-pin_count : (elements : List BodyElement) (k : Kind) → pins_of k ≡ length (pins_with_sources elements k)
+pub pin_count : (elements : List BodyElement) (k : Kind) → pins_of k ≡ length (pins_with_sources elements k)
 unfolding pins_with_sources
 pin_count elements kind.Skipped = refl
 pin_count elements kind.LeftRail = refl

@@ -9,6 +9,7 @@ pub mod LinkRules
 pub mod Types
 pub mod Forms
 pub mod TypingRules
+pub mod Typed
 pub mod CheckVerdict
 -- What is said of the definitions alone.
 pub mod Laws

@@ -17,7 +17,7 @@ use Rattle.plcx_rules.specs.declared.form.TypeRule.TheVariants.{NoType, Disagree
 use Rattle.plcx_rules.specs.Items.{Item, items_of, place_of}
 use Rattle.plcx_rules.specs.Forms.{sheet_at}
 use Rattle.plcx_rules.specs.declared.form.Gives.TheVariants.{Untyped}
-use Rattle.plcx_rules.specs.declared.form.Grouping.TheVariants.{Apart, Function}
+use Rattle.plcx_rules.specs.declared.form.Grouping.TheVariants.{Apart, Function, Passing}
 use Rattle.plcx_rules.specs.Types.{Sheet, form_at, pin_at, sources_at, output_at, gives_at, is_untyped, IsPinOf, AtPin, AtGroup, AtOutput, HasType, Takes}
 
 -- Rule 34: a function with a group, a connector or a continuation has no type.
@@ -29,8 +29,8 @@ pub record HasNoType (s : Sheet) (e : ℕ) : Type 0 where
 pub data Disagrees (s : Sheet) (e : ℕ) : Type 0 where
   -- a source has a type that the pin or group has not
   SourceDiffers : {i : ℕ} {o : Source} {t : Ty} → IsPinOf s e i → Contains (sources_at s i) o → HasType s (AtOutput o) t → (HasType s (AtPin i) t → ⊥) → Disagrees s e
-  -- a group has two types
-  GroupDiffers : {allowed : Allowed} {t u : Ty} → (form_at s e).grouping ≡ Function allowed → HasType s (AtGroup e) t → HasType s (AtGroup e) u → t ≢ u → Disagrees s e
+  -- a group has two types; a connector and a continuation are none
+  GroupDiffers : {t u : Ty} → (form_at s e).grouping ≢ Passing → HasType s (AtGroup e) t → HasType s (AtGroup e) u → t ≢ u → Disagrees s e
   -- a group's type isn't allowed
   GroupIsBarred : {allowed : Allowed} {t : Ty} → (form_at s e).grouping ≡ Function allowed → HasType s (AtGroup e) t → is_allowed allowed t ≡ false → Disagrees s e
   -- a lone pin's type isn't allowed

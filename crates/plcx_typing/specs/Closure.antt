@@ -1,10 +1,10 @@
 -- What the search for the types of groups keeps. Only proofs are served by it.
-use Rattle.std.specs.Prelude.{◌≡◌, ℕ, ◌+◌, ◌*◌, ◌<◌, ◌≤◌, ◌++◌, Bool, true, false, not, List, [], ◌∷◌, length, get_or, set, if◌then◌else◌}
-use Rattle.std.specs.List.{All, Contains, count_by}
+use Rattle.std.specs.Prelude.{◌≡◌, ℕ, ◌+◌, ◌*◌, ◌<◌, ◌≤◌, Bool, true, false, List, [], ◌∷◌, length, get_or, set}
+use Rattle.std.specs.List.{Contains}
 use Rattle.plcx_types.specs.declared.ty.Ty.{Ty}
 use Rattle.plcx_types.specs.declared.ty.Ty.TheVariants as ty
 use Rattle.plcx_types.specs.TypeName.{position_of_type}
-use Rattle.plcx_typing.specs.declared.closure.Fact.{Fact}
+use Rattle.plcx_typing.specs.declared.flow.Fact.{Fact}
 
 abbrev pub fact : ℕ → Ty → Fact
 fact e t = record { element = e; ty = t }
@@ -50,12 +50,18 @@ found_at found k = get_or found k no_fact
 abbrev pub IsPassed : List (List ℕ) → List Bool → Fact → Type 0
 IsPassed next marks f = (v : ℕ) → Contains (next_of next f.element) v → is_marked marks v f.ty ≡ true
 
+-- how many marks are missing
+abbrev pub unmarked : List Bool → ℕ
+unmarked [] = 0
+unmarked (true ∷ marks) = unmarked marks
+unmarked (false ∷ marks) = 1 + unmarked marks
+
 -- what is marked is found, once; what follows from the first of it is found as well
 pub record IsSearch (seeds : List Fact) (next : List (List ℕ)) (n : ℕ) (marks : List Bool) (found : List Fact) (done : ℕ) : Type 0 where
   pub count : length marks ≡ 14 * n
   pub each : (k : ℕ) → k < length found → IsFound seeds next n marks (found_at found k)
   pub whole : (e : ℕ) (t : Ty) → e < n → is_marked marks e t ≡ true → Contains found (fact e t)
-  pub left : count_by not marks + length found ≡ 14 * n
+  pub left : unmarked marks + length found ≡ 14 * n
   pub passed : (k : ℕ) → k < done → IsPassed next marks (found_at found k)
   pub most : done ≤ length found
 

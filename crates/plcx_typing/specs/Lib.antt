@@ -1,1 +1,6 @@
 pub mod Closure
+pub mod Sheets
+pub mod Flows
+pub mod Tests
+pub mod Faults
+pub mod Building

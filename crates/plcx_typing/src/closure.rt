@@ -1,29 +1,14 @@
 //! Which types come to which groups: a search over facts, each of which is found once.
-ghost use Rattle.std.specs.Prelude.{◌≡◌, ◌<◌, ◌≤◌, ◌*◌, ◌+◌, ◌++◌, ◌∷◌, [], ℕ, ◌^◌, true, length, get_or, IfOk, OnOk, if◌then◌else◌};
+ghost use Rattle.std.specs.Prelude.{◌≡◌, ◌<◌, ◌≤◌, ◌*◌, ◌+◌, ◌++◌, ◌∷◌, [], ℕ, ◌^◌, true, false, replicate, length, get_or, IfOk, OnOk, if◌then◌else◌};
 ghost use Rattle.std.specs.Bool.{Decides};
 ghost use Rattle.std.specs.List.{Contains};
 ghost use Rattle.plcx_types.specs.declared.ty.Ty.{Ty};
 ghost use Rattle.plcx_types.specs.TypeName.{position_of_type};
 ghost use Rattle.plcx_typing.specs.Closure.{mark_place, is_marked, marked, Comes, IsFlow, IsSearch, KeepsMarks, Extends, AreMarked};
 
+use crate::flow::{Fact, Flow};
 use plcx_types::{NoMemory, Ty};
-use sqlite_items::Items;
 use std::alloc::Global;
-
-/// A type that comes to the group of the element at this place.
-#[derive(Clone, Copy)]
-pub(crate) struct Fact {
-    pub element: u32,
-    pub ty: Ty,
-}
-
-/// How types flow: what sources of declared types give to groups, and for each element the elements whose groups
-/// take what its own gives.
-#[derive(Drop)]
-pub(crate) struct Flow {
-    pub seeds: Vec<Fact>,
-    pub next: Vec<Items<u32>>,
-}
 
 /// What is found by now: a mark for each element and type, and the facts in the order in which they were found.
 #[derive(Drop)]
@@ -33,7 +18,7 @@ struct Search {
 }
 
 /// The place of a type among all types.
-fn position(ty: Ty) -> usize
+pub(crate) fn position(ty: Ty) -> usize
     ensures place { result ≡ position_of_type ty }
     ensures below { result < 14 }
 {
@@ -98,6 +83,13 @@ impl Search {
     }
 }
 
+/// No mark.
+fn no_marks(alloc: Global, count: usize) -> Result<Vec<bool>, NoMemory>
+    ensures { IfOk result (λ marks. marks.items ≡ replicate count false) }
+{
+    Ok(vec![in alloc; false; count]?)
+}
+
 /// A search that has found the seeds.
 fn begin(alloc: Global, flow: &Flow, count: usize) -> Result<Search, NoMemory>
     requires flow { IsFlow count flow.now.seeds.items flow.now.next.items }
@@ -106,7 +98,7 @@ fn begin(alloc: Global, flow: &Flow, count: usize) -> Result<Search, NoMemory>
     ensures seeds { IfOk result (λ search. AreMarked search.marks.items flow.now.seeds.items) }
 {
     let mut search = Search {
-        marks: vec![in alloc; false; 14 * count]?,
+        marks: no_marks(alloc, 14 * count)?,
         found: Vec::new(alloc),
     };
     for seed in &flow.seeds {

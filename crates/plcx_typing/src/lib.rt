@@ -2,3 +2,8 @@
 #![tactic(auto)]
 
 mod closure;
+mod faults;
+mod flow;
+mod forms;
+mod outputs;
+mod rules;
