@@ -42,9 +42,10 @@ pub marks_are : (s : Sheet) (seeds : List Fact) (next : List (List ℕ)) (marks 
 marks_are s seeds next marks flow fed placed count decides e t = elim (cases_lt e (length s.forms)) [
   | inl low ↦ comes_decides s seeds next flow fed e t (is_marked marks e t) (decides e t low)
   | inr high ↦
-      let off : is_marked marks e t ≡ false = get_or-eq_default marks false (omega (arith, count)) in
-      ((λ on. let f : false ≡ true = sym off ∙ on in absurd (cc)),
-       (λ has. let why = group_inverse s e t has in let low = placed why.0 no_pin why.2.count in absurd (omega (arith, low, why.2.owner))))
+      let off : is_marked marks e t ≡ false = get_or-eq_default marks false (omega (arith, count)) in (
+        (λ on. let f : false ≡ true = sym off ∙ on in absurd (cc)),
+        (λ has. let why = group_inverse s e t has in let low = placed why.0 no_pin why.2.count in absurd (omega (arith, low, why.2.owner))),
+      )
 ]
 
 first_in : (p : Ty → Bool) (ts : List Ty) (k : ℕ) (t : Ty) → k < length ts → get_or ts k t ≡ t → p t ≡ true → p (first_type p ts) ≡ true
@@ -117,6 +118,7 @@ module _ (s : Sheet) (marks : List Bool) (are : AreMarks s marks) where
       counts NoType = a.0
       counts Disagreement = b.0
       counts Range = c.0
+
       each : (r : TypeRule) (x : ℕ) → x < length s.forms → Decides (flag (flags_of r (found_by u d o inputs given)) x) (BreaksIn r s x)
       each NoType x low = a.1 x low
       each Disagreement x low = b.1 x low
@@ -183,9 +185,9 @@ have_types pous links js types are none inputs wires = record {
         shared = λ e shares. elim (ok.shared e shares) [
           | inr some ↦ some
           | inl no-type ↦ elim (cases_lt e (length s.forms)) [
-              | inl l ↦ absurd (off NoType e l no-type)
-              | inr h ↦ absurd (shares (ap (λ (f : Form). f.grouping) (get_or-eq_default s.forms no_form h)))
-            ]
+            | inl l ↦ absurd (off NoType e l no-type)
+            | inr h ↦ absurd (shares (ap (λ (f : Form). f.grouping) (get_or-eq_default s.forms no_form h)))
+          ]
         ];
       } in
       subst (λ xs. AreTypes s ws xs (get_or types.wires place [])) (sym at) (subst (λ ys. AreTypes s ws j.inputs ys) (sym at') found);

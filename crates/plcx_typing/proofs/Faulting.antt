@@ -83,8 +83,8 @@ module _ (s : Sheet) (marks : List Bool) (are : AreMarks s marks) where
       Decides-or (nat_eq p.element x && pin_breaks r s marks p sources) (list_any (source_raises r s marks p sources x) sources)
       (Decides-and (nat_eq p.element x) (pin_breaks r s marks p sources) (nat_decides p.element x) (pin_breaks_decides r i low))
       (any_decides (source_raises r s marks p sources x) (SourceFault r x i) (λ o.
-          Decides-and (nat_eq o.element x) (is_literal s o && literal_breaks r s marks p sources o.element) (nat_decides o.element x)
-          (Decides-and (is_literal s o) (literal_breaks r s marks p sources o.element) (on_decides (is_literal s o)) (literal_breaks_decides r i o.element low))) sources)
+      Decides-and (nat_eq o.element x) (is_literal s o && literal_breaks r s marks p sources o.element) (nat_decides o.element x)
+      (Decides-and (is_literal s o) (literal_breaks r s marks p sources o.element) (on_decides (is_literal s o)) (literal_breaks_decides r i o.element low))) sources)
 
   abbrev Fault : TypeRule → ℕ → Type 0
   Fault r x = FormFault r x ⊎ ((i : ℕ) × ((i < length s.pins) × AtPinFault r x i))

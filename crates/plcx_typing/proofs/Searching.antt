@@ -178,7 +178,8 @@ module _ (seeds : List Fact) (next : List (List ℕ)) (n : ℕ) where
         let listed = s.whole e t h m in
         let at : found_at found listed.0 ≡ fact e t = get_or_default found listed.0 no_fact (fact e t) listed.1 ∙ listed.2 in
         subst (λ (f : Fact). Comes seeds next f.element f.ty) at (s.each listed.0 listed.1).comes),
-    (λ comes. (all_marked marks found done flow s over seeded e t comes).1))
+    (λ comes. (all_marked marks found done flow s over seeded e t comes).1),
+  )
 
   -- what follows from the next fact comes
   pub follows : (marks : List Bool) (found : List Fact) (done : ℕ) (f : Fact) (items : List ℕ) → IsFlow n seeds next → IsSearch seeds next n marks found done → done < length found → f ≡ found_at found done
