@@ -20,3 +20,6 @@ mod Suited
 mod Wired
 mod Outputs
 mod Joined
+mod Instances
+mod Lent
+mod Calls
