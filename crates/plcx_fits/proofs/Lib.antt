@@ -19,4 +19,6 @@ mod Given
 mod Suited
 mod Wired
 mod Outputs
+mod Enables
+mod Functions
 mod Joined

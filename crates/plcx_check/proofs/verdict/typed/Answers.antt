@@ -11,4 +11,4 @@ pub returns-in-Err-Broken : goal.returns-in-Err-Broken
 returns-in-Err-Broken c =
     let project = c.args.project.now in
     let e : (r : TypeRule) × (place : Place) × TypingVerdict project c.args.links.now.bodies (Some (r, place)) × (c.in-Err-Broken.broken ≡ broken_at (type_rule_number r) place) = subst (RefusesTypes project c.args.links.now) c.in-Err-Broken.field-0-is c.in-Err-Broken.ensures in
-    in_types project c.in-Err-Broken.broken e.0 e.1 c.requires.verdict (subst (λ links. TypingVerdict project links (Some (e.0, e.1))) c.requires.bodies e.2) e.3
+    in_types project c.in-Err-Broken.broken e.0 e.1 c.requires.kept (subst (λ links. TypingVerdict project links (Some (e.0, e.1))) c.requires.sources e.2) e.3
