@@ -83,7 +83,7 @@ module _ (pous : List Pou) (p : Pou) (tys : List Ty) (marks : List Bool) where
   pub form_is : (v : ℕ) (e : BodyElement) → slice_get p.body.elements v ≡ Some e → form_at (sheet pous p tys marks) v ≡ form_of pous p e.kind
   form_is v e here =
       get_or_from_slice_get (map (λ (x : BodyElement). form_of pous p x.kind) p.body.elements) v (form_of pous p e.kind) no_form
-          (slice_get-map (λ (x : BodyElement). form_of pous p x.kind) p.body.elements v ∙ ap (λ (o : Option BodyElement). mapped o) here)
+      (slice_get-map (λ (x : BodyElement). form_of pous p x.kind) p.body.elements v ∙ ap (λ (o : Option BodyElement). mapped o) here)
     where
       mapped : Option BodyElement → Option Form
       mapped None = None

@@ -64,7 +64,7 @@ module _ (project : diagram.Project) (dp : diagram.Pou) (g : Graph) (network : L
       → KindFits (record { project = project; pou = dp; done = D }) el.kind
 
   module _ (apart : (u v : ℕ) (a b : DiagramElement) → slice_get dp.elements u ≡ Some a → slice_get dp.elements v ≡ Some b → a.id ≡ b.id → u ≡ v)
-           (there : (x : ℕ) → Listed network x → (el : DiagramElement) × (slice_get dp.elements x ≡ Some el)) (kinds : ReadyFits) where
+      (there : (x : ℕ) → Listed network x → (el : DiagramElement) × (slice_get dp.elements x ≡ Some el)) (kinds : ReadyFits) where
     fixed_more : (done : List ℕ) (D : List (ℕ × Port)) (x : ℕ) (el : DiagramElement) → slice_get dp.elements x ≡ Some el → IsFixed dp.elements done D → IsFixed dp.elements (done ++ x ∷ []) (fixed_by el ++ D)
     fixed_more done D x el at fixed = record {
       all = λ u other listed is o has. elim (listed_cases done x u listed) [
@@ -72,7 +72,7 @@ module _ (project : diagram.Project) (dp : diagram.Pou) (g : Graph) (network : L
         | inr e ↦
             let same : el ≡ other = some_same (sym at ∙ ap (slice_get dp.elements) (sym e) ∙ is) in
             Contains-append_left (fixed_by el) D (other.id, o)
-                (subst (λ (d : DiagramElement). Contains (ports d.kind) o → Contains (fixed_by el) (d.id, o)) same (λ k. contains_map (λ (y : Port). (el.id, y)) (ports el.kind) o k) has)
+            (subst (λ (d : DiagramElement). Contains (ports d.kind) o → Contains (fixed_by el) (d.id, o)) same (λ k. contains_map (λ (y : Port). (el.id, y)) (ports el.kind) o k) has)
       ];
       only = each_append (Known (done ++ x ∷ [])) (fixed_by el) D
           (each_map (Known (done ++ x ∷ [])) (λ (y : Port). (el.id, y)) (ports el.kind) (each_from _ (ports el.kind) (λ y k. (x, el, listed_last done x, at, refl))))
@@ -92,9 +92,9 @@ module _ (project : diagram.Project) (dp : diagram.Pou) (g : Graph) (network : L
         let found = there x ready.element in
         let el = found.0 in
         let new : is_fresh el.id D ≡ true = fresh el.id D (each_weaker _ (λ (d : ℕ × Port). d.0 ≡ el.id → ⊥) D
-            (λ d k same. ready.new (subst (Listed done) (apart k.0 x k.1 el k.3 found.1 (k.4 ∙ same)) k.2)) fixed.only) in
+        (λ d k same. ready.new (subst (Listed done) (apart k.0 x k.1 el k.3 found.1 (k.4 ∙ same)) k.2)) fixed.only) in
         subst (λ (o : Option DiagramElement). ElementsFit project dp D (cons_option o (network_of dp.elements xs))) (sym found.1)
-            (contains_at dp.elements x el found.1, new, kinds done D x el ready fixed found.1, fit_from (done ++ x ∷ []) xs (fixed_by el ++ D) order.1 (fixed_more done D x el found.1 fixed))
+        (contains_at dp.elements x el found.1, new, kinds done D x el ready fixed found.1, fit_from (done ++ x ∷ []) xs (fixed_by el ++ D) order.1 (fixed_more done D x el found.1 fixed))
 
     pub network_fits : (xs : List ℕ) → IsOrder g network xs → ElementsFit project dp [] (network_of dp.elements xs)
     network_fits xs order = fit_from [] xs [] order (record { all = λ u el k. absurd k; only = tt })

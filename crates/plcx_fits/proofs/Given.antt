@@ -143,11 +143,11 @@ module _ (pous : List Pou) (p : Pou) (tys : List Ty) (marks : List Bool) where
     pub reads : (v : ℕ) (e : BodyElement) (st : ElementStands pous p tys marks v e) (negated : Bool) (pin : view.Pin) → Contains (links_of (kind_of pous p st.pins e.kind)) (link_of pous p negated pin) → Reads pin
     reads v e st negated pin there = λ id name t has.
         any_from (λ (x : DiagramElement). list_any (link_reads_back id name) (links_of x.kind)) (bare pous p tys marks) (element_of pous p st.pins e) (contains_at (bare pous p tys marks) v (element_of pous p st.pins e) st.bare)
-            (any_from (link_reads_back id name) (links_of (kind_of pous p st.pins e.kind)) (link_of pous p negated pin) there (reads_link pin.ty negated (map (source_of pous p) pin.feeds) id name has))
+        (any_from (link_reads_back id name) (links_of (kind_of pous p st.pins e.kind)) (link_of pous p negated pin) there (reads_link pin.ty negated (map (source_of pous p) pin.feeds) id name has))
 
     module _ (k : ℕ) (keeps : Keeps pous p tys marks k) (given : AreGiven) (D : List (ℕ × Port))
-             (v : ℕ) (e : BodyElement) (here : slice_get p.body.elements v ≡ Some e) (before : IsBefore v D)
-             (form : Pin) (pin : view.Pin) (st : Stands pous p tys marks v form pin) (has : HasType (sheet pous p tys marks) (AtPin st.number) pin.ty) (fed : Reads pin) where
+        (v : ℕ) (e : BodyElement) (here : slice_get p.body.elements v ≡ Some e) (before : IsBefore v D)
+        (form : Pin) (pin : view.Pin) (st : Stands pous p tys marks v form pin) (has : HasType (sheet pous p tys marks) (AtPin st.number) pin.ty) (fed : Reads pin) where
       -- the element that an output is of, in the diagram
       abbrev shown : (u : ℕ) (f : BodyElement) → ElementStands pous p tys marks u f → DiagramElement
       shown u f su = with_fed plain (element_of pous p su.pins f)
@@ -177,14 +177,13 @@ module _ (pous : List Pou) (p : Pou) (tys : List Ty) (marks : List Bool) where
 
           by : (b : Bool) → feed.1 ≡ b → SourceFits (standing D) pin.ty (wired_to b f.local_id name)
           by false m = before feed (each_at (IsMarked (wires pous p tys marks) marks v) pin.feeds feed st.marked there) m f su.element (takes_part pous p f.kind feed.0.pin output is_wired) (shown feed.0.element f su) (shown_at feed.0.element f su) (port name pin.ty) own
-          by true m =
-              (
-                shown feed.0.element f su,
-                contains_at seen_pou.elements feed.0.element (shown feed.0.element f su) (shown_at feed.0.element f su),
-                refl,
-                filter_has (is_fed plain f.local_id) (ports (kind_of pous p su.pins f.kind)) (port name pin.ty) own
-                    (fed f.local_id name pin.ty (subst (λ s. Contains (map (source_of pous p) pin.feeds) s) (is ∙ ap (λ b. wired_to b f.local_id name) m) (contains_map (source_of pous p) pin.feeds feed there))),
-              )
+          by true m = (
+            shown feed.0.element f su,
+            contains_at seen_pou.elements feed.0.element (shown feed.0.element f su) (shown_at feed.0.element f su),
+            refl,
+            filter_has (is_fed plain f.local_id) (ports (kind_of pous p su.pins f.kind)) (port name pin.ty) own
+                (fed f.local_id name pin.ty (subst (λ s. Contains (map (source_of pous p) pin.feeds) s) (is ∙ ap (λ b. wired_to b f.local_id name) m) (contains_map (source_of pous p) pin.feeds feed there))),
+          )
 
       -- ---- literals
 
@@ -204,8 +203,7 @@ module _ (pous : List Pou) (p : Pou) (tys : List Ty) (marks : List Bool) where
           let out = output_is o.element f at text mods is o refl in
           let typed : HasType (sheet pous p tys marks) (AtOutput o) val.ty = DeclaredOutput (ap (λ (x : Out). x.gives) out ∙ ap gives_held held) in
           let same = pin_agrees pous p tys marks k keeps v e here form pin st o val.ty (source_there feed there) typed in
-          let from = held_is pous p text (OfLiteral (literal.Typed val)) held in
-          (
+          let from = held_is pous p text (OfLiteral (literal.Typed val)) held in (
             subst (λ t. InRange t val.n) (sym same) (literal_suits from.0 (literal.Typed val) from.1),
             (λ negated. same ∙ one_type val.ty ty.Bool (λ differ. keeps.agrees o.element f at (OutputIsNoBool refl (ap (λ (x : Out). x.negated) out ∙ negated) typed differ))),
           )
@@ -215,8 +213,7 @@ module _ (pous : List Pou) (p : Pou) (tys : List Ty) (marks : List Bool) where
           let out = output_is o.element f at text mods is o refl in
           let front = output_is o.element f at text mods is first refl in
           let untyped = ap (λ (x : Out). x.gives) out ∙ ap gives_held held in
-          let takes = pin_takes pous p tys marks k keeps v e here form pin st has o (source_there feed there) (ap is_untyped untyped) in
-          (
+          let takes = pin_takes pous p tys marks k keeps v e here form pin st has o (source_there feed there) (ap is_untyped untyped) in (
             in_range pin.ty n (λ outside. keeps.inside o.element f at (record { number = n; literal = ap (λ (x : Out). x.gives) front ∙ ap gives_held held; taken = pin.ty; takes = takes; outside = outside })),
             (λ negated. one_type pin.ty ty.Bool (λ differ. keeps.agrees o.element f at (LiteralIsNoBool (ap (λ (x : Out). x.negated) front ∙ negated) takes differ))),
           )
@@ -227,7 +224,7 @@ module _ (pous : List Pou) (p : Pou) (tys : List Ty) (marks : List Bool) where
       unfolding form_of
       rail_fits feed there f at is =
           pin_agrees pous p tys marks k keeps v e here form pin st feed.0 ty.Bool (source_there feed there)
-              (DeclaredOutput (ap (λ (x : Form). (output_among x.outputs feed.0.pin).gives) (form_is pous p tys marks feed.0.element f at ∙ ap (form_of pous p) is)))
+          (DeclaredOutput (ap (λ (x : Form). (output_among x.outputs feed.0.pin).gives) (form_is pous p tys marks feed.0.element f at ∙ ap (form_of pous p) is)))
 
       -- what is held there, or else the output
       reading_fits : (feed : Feed) → Contains pin.feeds feed → (f : BodyElement) → slice_get p.body.elements feed.0.element ≡ Some f → (text : List ℕ) (mods : Mods) → f.kind ≡ kind.In text mods
@@ -280,7 +277,7 @@ module _ (pous : List Pou) (p : Pou) (tys : List Ty) (marks : List Bool) where
           let su = element_stands pous p tys marks keeps.typed keeps.sourced keeps.marked feed.0.element f own.1 in
           let is = ap (λ (x : Option BodyElement). found_gives pous p x feed.0.pin feed.1) own.1 in
           subst (SourceFits (standing D) pin.ty) (sym is)
-              (by_kind feed there f own.1 f.kind refl own.2 (λ w. wired feed there f su own.2 w (is ∙ wired_is f.kind f.local_id feed.0.pin feed.1 w)))
+          (by_kind feed there f own.1 f.kind refl own.2 (λ w. wired feed there f su own.2 w (is ∙ wired_is f.kind f.local_id feed.0.pin feed.1 w)))
 
       pub each_source : Each (SourceFits (standing D) pin.ty) (map (source_of pous p) pin.feeds)
       each_source = each_map (SourceFits (standing D) pin.ty) (source_of pous p) pin.feeds (each_from (λ (x : Feed). SourceFits (standing D) pin.ty (source_of pous p x)) pin.feeds source_fits)

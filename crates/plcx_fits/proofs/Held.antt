@@ -66,8 +66,8 @@ module _ (pous : List Pou) (p : Pou) where
   unfolding held_in
   of_text text =
       either (option_map OfLiteral (literal_of (in_lower_case text))) (or_else (name_held p text) (member_held pous p text))
-          (of_literal (in_lower_case text) (literal_of (in_lower_case text)) refl)
-          (either (name_held p text) (member_held pous p text) (of_name text (declaration_named p text) refl) (of_member text (position_from (nat_eq 46) 0 text)))
+      (of_literal (in_lower_case text) (literal_of (in_lower_case text)) refl)
+      (either (name_held p text) (member_held pous p text) (of_name text (declaration_named p text) refl) (of_member text (position_from (nat_eq 46) 0 text)))
 
   pub held_is : (text : List ℕ) (h : Held) → text_held pous p text ≡ Some h → HeldIs pous p h
   held_is text h is = subst (OnEvery Is) is (of_text (trimmed text))

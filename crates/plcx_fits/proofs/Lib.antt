@@ -19,6 +19,8 @@ mod Given
 mod Suited
 mod Wired
 mod Outputs
+mod Enables
+mod Functions
 mod Joined
 mod Instances
 mod Lent

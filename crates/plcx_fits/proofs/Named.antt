@@ -118,7 +118,7 @@ lists_shown : (pous : List Pou) (k : PouKind) (lists : List VarList) → Each (L
 lists_shown pous k [] s = tt
 lists_shown pous k (l ∷ lists) s =
     along_append (IsShown pous) (declared_in l) (flat_map declared_in lists) (layout.block_variables (list_of pous l)) (layout.variables_of (map (list_of pous) lists))
-        (list_shown pous l l.variables s.0.variables) (lists_shown pous k lists s.1)
+    (list_shown pous l l.variables s.0.variables) (lists_shown pous k lists s.1)
 
 -- what is found in the file is found in the diagram
 record Leads (pous : List Pou) (name key : List ℕ) (vs : List layout.Variable) (d : Declaration) : Type 0 where
@@ -252,8 +252,7 @@ module _ (project : Project) (links : Links) (types : Types) (plan : Plan) (soun
   written_there p s name d is can = λ v named.
       let f = declared_there p s name d is in
       let same : f.variable ≡ v = one (sym f.found ∙ named) in
-      let more = both_parts (is_some (plain_type d.variable.ty)) (not d.constant) (not (same_class d.class class.Input)) can in
-      (
+      let more = both_parts (is_some (plain_type d.variable.ty)) (not d.constant) (not (same_class d.class class.Input)) can in (
         subst (λ (x : layout.Variable). x.class ≢ tree.Input) same (λ h. no_input d.class more.1 (sym f.shown.class ∙ h)),
         subst (λ (x : layout.Variable). x.mark ≢ tree.Constant) same (f.shown.mark (not-true d.constant more.0)),
       )
@@ -305,7 +304,7 @@ module _ (project : Project) (links : Links) (types : Types) (plan : Plan) (soun
       let q = h.0 in
       let s = (is_block project links types plan sound place q h.1 h.2).keeps in
       subst (λ (vs : List layout.Variable). Each (IsPinOf vs (class_of c)) (pins_where c (slice_get pous place))) (sym (within_block place h))
-          (subst (λ (o : Option Pou). Each (IsPinOf (shown_variables q) (class_of c)) (pins_where c o)) (sym h.1) (pins_found pous (shown_variables q) c (declarations_of q) (each_declared q s)))
+      (subst (λ (o : Option Pou). Each (IsPinOf (shown_variables q) (class_of c)) (pins_where c o)) (sym h.1) (pins_found pous (shown_variables q) c (declarations_of q) (each_declared q s)))
 
   pub outputs_there : (t : VarTy) → IsKnown pous t → Each (IsPinOf (within t) tree.Output) (outputs_of_type pous t)
   unfolding outputs_of_type
@@ -339,8 +338,7 @@ module _ (project : Project) (links : Links) (types : Types) (plan : Plan) (soun
   operand_fits dp D p lists s (OfInstance d) t from read = absurd read
   operand_fits dp D p lists s (OfOutput d o) t from read =
       let f = declared_there p s from.0 d from.1 in
-      let own = found_one (IsPinOf (within d.variable.ty) tree.Output) (λ (q : BlockPin). same_name from.2 q.name) (outputs_of_type pous d.variable.ty) o (outputs_there d.variable.ty f.shown.known) from.3 in
-      (
+      let own = found_one (IsPinOf (within d.variable.ty) tree.Output) (λ (q : BlockPin). same_name from.2 q.name) (outputs_of_type pous d.variable.ty) o (outputs_there d.variable.ty f.shown.known) from.3 in (
         within d.variable.ty,
         subst (λ (bs : List tree.Block). IsInstance (world_of dia) (layout.variables_of bs) d.variable.name (within d.variable.ty)) (sym lists) (instance_there p s from.0 d from.1 (has_outputs d.variable.ty from.2 o from.3)),
         subst (λ u. HasType (within d.variable.ty) o.name u (λ class. class ≡ tree.Output)) read own.0,

@@ -187,8 +187,7 @@ module _ (pous : List Pou) (p : Pou) (tys : List Ty) (marks : List Bool) (k : �
     passes : (n : Kind) → e.kind ≡ n → element_pins pous p u n ≡ form_pin u (Some class.Group) false ∷ [] → (form_of pous p n).grouping ≢ Apart → (output_among (form_of pous p n).outputs pin).gives ≡ Grouped
         → (t : Ty) × HasType sh (AtOutput (at u pin)) t × ((link_at pous p st.pins).ty ≡ t)
     passes n is pins_are shares gives =
-        let g = keeps.shared u e st.element (λ h. shares (ap (λ m. (form_of pous p m).grouping) (sym is) ∙ h)) in
-        (
+        let g = keeps.shared u e st.element (λ h. shares (ap (λ m. (form_of pous p m).grouping) (sym is) ∙ h)) in (
           g.0,
           OutputOfGroup refl (ap (λ (x : Form). (output_among x.outputs pin).gives) (form_there n is) ∙ gives) g.1,
           by st.pins (subst (λ fs. Along (Stands pous p tys marks u) fs st.pins) (ap (element_pins pous p u) is ∙ pins_are) st.stand) g.0 g.1,
@@ -246,7 +245,7 @@ module _ (pous : List Pou) (p : Pou) (tys : List Ty) (marks : List Bool) (k : �
           last : (t : Ty) → out_type f T ≡ t → Contains (ports (block_kind (Some (callee.Function f)))) (port (declared_name (output_formal pous (callee.Function f) outputs o)) t)
           last t out_is =
               subst (λ (x : Port). Contains (ports (block_kind (Some (callee.Function f)))) x) (ap (port (codes "OUT")) out_is ∙ ap (λ n. port n t) (sym (ap declared_name formal_is)))
-                  (Contains-append_right (eno_ports E) (port (codes "OUT") (out_type f T) ∷ []) (port (codes "OUT") (out_type f T)) (contains_first (port (codes "OUT") (out_type f T)) []))
+              (Contains-append_right (eno_ports E) (port (codes "OUT") (out_type f T) ∷ []) (port (codes "OUT") (out_type f T)) (contains_first (port (codes "OUT") (out_type f T)) []))
 
           by : (c : Class) → output_class f ≡ c → Wanted (callee.Function f)
           by (class.Fixed t) same = record { ty = t; typed = DeclaredOutput (gives ∙ ap (λ x. gives_class (Some x)) same); has = last t (ap (λ x. elim x [ class.Group ↦ T | class.Lone ↦ T | class.Fixed v ↦ v ]) same) }
@@ -288,7 +287,7 @@ module _ (pous : List Pou) (p : Pou) (tys : List Ty) (marks : List Bool) (k : �
                 typed = DeclaredOutput (gives_is c called ∙ ap (λ (r : Option Formal). gives_class (class_of r)) whole_is ∙ ap (λ x. gives_class (Some x)) found.1);
                 has = subst (λ t. Contains (ports (block_kind (Some c))) (port (declared_name (output_formal pous c outputs o)) t)) t_is
                     (behind (port (declared_name (output_formal pous c outputs o)) (fixed_type (output_formal pous c outputs o)))
-                        (output_there (output_pin pous c outputs) (beside outputs) o (filter_has (λ (x : PinOut). not (is_eno x)) outputs o (contains_at outputs pin o there) test)));
+                    (output_there (output_pin pous c outputs) (beside outputs) o (filter_has (λ (x : PinOut). not (is_eno x)) outputs o (contains_at outputs pin o there) test)));
               }
 
       wanted : (c : Callee) → callee_named pous type_name ≡ Some c → is_none (output_formal pous c outputs o) ≡ false → Wanted c

@@ -65,13 +65,16 @@ feeds_marked ws marks long v j w (x ∷ s) W (m ∷ M) h k =
     let r = feeds_marked ws marks long v j (w + 1) s W M a.1 b.1 in
     let at = get_or_from_slice_get ws w here (record { from = record { element = 0; pin = 0 }; to = record { element = 0; pin = 0 } }) a.0 in
     record {
-      marked = (record {
-        wire = w;
-        below = slice_get_within ws w here a.0;
-        from = ap (λ (x : Wire). x.from) at;
-        to = ap (λ (x : Wire). x.to.element) at;
-        mark = get_or_from_slice_get marks w m false b.0;
-      }, r.marked);
+      marked = (
+        record {
+          wire = w;
+          below = slice_get_within ws w here a.0;
+          from = ap (λ (x : Wire). x.from) at;
+          to = ap (λ (x : Wire). x.to.element) at;
+          mark = get_or_from_slice_get marks w m false b.0;
+        },
+        r.marked,
+      );
       same = ap (λ l. x ∷ l) r.same;
       w = r.w;
       wires = r.wires;
@@ -156,15 +159,18 @@ module _ (pous : List Pou) (p : Pou) (tys : List Ty) (marks : List Bool) where
           S' = r.S';
           M' = r.M';
           at = r.at;
-          stand = (record {
-            number = n;
-            below = slice_get_within sheet.pins n f a.0;
-            is = get_or_from_slice_get sheet.pins n f _ a.0;
-            owner = own.0;
-            ty = sym (get_or_from_slice_get tys n t ty.Bool b.0);
-            sources = fed.same ∙ sym (get_or_from_slice_get links n s [] c.0);
-            marked = fed.marked;
-          }, r.stand);
+          stand = (
+            record {
+              number = n;
+              below = slice_get_within sheet.pins n f a.0;
+              is = get_or_from_slice_get sheet.pins n f _ a.0;
+              owner = own.0;
+              ty = sym (get_or_from_slice_get tys n t ty.Bool b.0);
+              sources = fed.same ∙ sym (get_or_from_slice_get links n s [] c.0);
+              marked = fed.marked;
+            },
+            r.stand,
+          );
           rest = r.rest;
           sources = ap₂ (λ x l. x ∷ l) fed.same r.sources;
           left = r.left;
@@ -224,8 +230,13 @@ module _ (pous : List Pou) (p : Pou) (tys : List Ty) (marks : List Bool) where
         let count : pins_of x.kind ≡ length F = form_count v x.kind in
         let source_count : pins_of x.kind ≡ length (pins_with_sources body x.kind) = pin_count body x.kind in
         let r = pins_stand v 0 F more n w T S (numbering.wires_from (v + 1) xs (drop (length F) S)) M (own_forms v x.kind)
-            (record { forms = at.forms; types = at.types; sources = at.sources;
-              wired = at.wired ∙ ap (λ c. wires_at_pins v 0 (take c S) ++ numbering.wires_from (v + 1) xs (drop c S)) count; rest = at.rest }) in
+        (record {
+          forms = at.forms;
+          types = at.types;
+          sources = at.sources;
+          wired = at.wired ∙ ap (λ c. wires_at_pins v 0 (take c S) ++ numbering.wires_from (v + 1) xs (drop c S)) count;
+          rest = at.rest;
+        }) in
         let own = take (length F) (view.pins_from T S M) in
         let ahead = drop_front v body x xs es in
         let first = drop_front v bare (element_of pous p (take (pins_of x.kind) (view.pins_from T S M)) x) (elements_from pous p (drop (pins_of x.kind) (view.pins_from T S M)) xs) bs in
@@ -238,10 +249,10 @@ module _ (pous : List Pou) (p : Pou) (tys : List Ty) (marks : List Bool) where
         } in
         let left : r.S' ≡ of_all xs = r.left ∙ ap (λ c. drop c S) (sym count ∙ source_count) ∙ ap (drop (length (pins_with_sources body x.kind))) ss ∙ drop_behind (pins_with_sources body x.kind) (of_all xs) in
         let moved : drop (v + 1) bare ≡ elements_from pous p (view.pins_from r.T' r.S' r.M') xs =
-          first.1 ∙ ap (λ c. elements_from pous p (drop c (view.pins_from T S M)) xs) count ∙ ap (λ l. elements_from pous p l xs) r.rest in
+        first.1 ∙ ap (λ c. elements_from pous p (drop c (view.pins_from T S M)) xs) count ∙ ap (λ l. elements_from pous p l xs) r.rest in
         at_place i h here
-            (elements_stand (v + 1) xs r.n r.w r.T' r.S' r.M' ahead.1 moved left
-                (record { forms = r.at.forms; types = r.at.types; sources = r.at.sources; wired = r.at.wired ∙ ap (numbering.wires_from (v + 1) xs) (sym r.left); rest = r.at.rest }))
+        (elements_stand (v + 1) xs r.n r.w r.T' r.S' r.M' ahead.1 moved left
+        (record { forms = r.at.forms; types = r.at.types; sources = r.at.sources; wired = r.at.wired ∙ ap (numbering.wires_from (v + 1) xs) (sym r.left); rest = r.at.rest }))
       where
         at_place : (i : ℕ) → slice_get (x ∷ xs) i ≡ Some e → ElementStands v x → ((k : ℕ) (f : BodyElement) → slice_get xs k ≡ Some f → ElementStands (v + 1 + k) f) → ElementStands (v + i) e
         at_place zero h here later = let same : x ≡ e = cc in let none : v ≡ v + 0 = omega arith in subst (λ n. ElementStands n e) none (subst (ElementStands v) same here)
@@ -252,4 +263,4 @@ module _ (pous : List Pou) (p : Pou) (tys : List Ty) (marks : List Bool) where
     element_stands v e h =
         let zero_more : 0 + v ≡ v = omega arith in
         subst (λ n. ElementStands n e) zero_more
-            (elements_stand 0 body 0 0 tys links marks refl refl refl (record { forms = refl; types = refl; sources = refl; wired = refl; rest = refl }) v e h)
+        (elements_stand 0 body 0 0 tys links marks refl refl refl (record { forms = refl; types = refl; sources = refl; wired = refl; rest = refl }) v e h)

@@ -67,7 +67,7 @@ some_one [] h = cc
 some_one (x ∷ xs) h = omega arith
 
 module _ (project : Project) (links : Links) (types : Types) (plan : Plan) (sound : Sound project) (p : Pou) (tys : List Ty) (marks : List Bool) (networks : List (List ℕ)) (k : ℕ) (keeps : Keeps project.pous p tys marks k)
-         (given : AreGiven project.pous p tys marks) (D : List (ℕ × Port)) (v : ℕ) (e : BodyElement) (st : ElementStands project.pous p tys marks v e) where
+    (given : AreGiven project.pous p tys marks) (D : List (ℕ × Port)) (v : ℕ) (e : BodyElement) (st : ElementStands project.pous p tys marks v e) where
   abbrev pous : List Pou
   pous = project.pous
 
@@ -117,7 +117,7 @@ module _ (project : Project) (links : Links) (types : Types) (plan : Plan) (soun
       let long : length one.pin.feeds ≡ c = sym (length_mapped (λ (x : Feed). x.0) one.pin.feeds) ∙ first (ap (λ l. map length (map sources_of l)) (sym one.is) ∙ one.count ∙ counts) in
       let contained = subst (λ l. Contains (links_of (kind_of pous p st.pins e.kind)) l) own (subst (λ m. Contains (links_of (kind_of pous p st.pins m)) (link_at pous p st.pins)) (sym is) there) in
       let fits = link_fits pous p tys marks dia networks k keeps given D v e st.element before f one.pin one.stand has (reads pous p tys marks dia networks v e st false one.pin contained) false (λ h. absurd (cc))
-            (omega (arith, long, some)) (omega (arith, long, few)) in
+      (omega (arith, long, some)) (omega (arith, long, few)) in
       record { fits = subst (LinkFits at) (sym own) fits; typed = ap (λ (l : Link). l.ty) own ∙ link_has pous p false one.pin ∙ ty.0 }
     where
       first : {a b : ℕ} → (a ∷ []) ≡ (b ∷ []) → a ≡ b
@@ -226,8 +226,7 @@ module _ (project : Project) (links : Links) (types : Types) (plan : Plan) (soun
         let fixed = λ (pin : view.Pin) (s : Stands pous p tys marks v f pin). pin_fixed pous p tys marks k keeps v e st.element f pin s target_is.ty class_is in
         let r = single_fits before (kind.Out input text mods) whole_is f refl (length input) refl (some_one input (source_there (kind.Out input text mods) whole_is)) (few_there (kind.Out input text mods) whole_is).0 target_is.ty fixed (contains_first _ []) in
         let t = fixed one.pin one.stand in
-        let has : HasType sh (AtPin one.stand.number) one.pin.ty = subst (λ u. HasType sh (AtPin one.stand.number) u) (sym t.0) t.1 in
-        (
+        let has : HasType sh (AtPin one.stand.number) one.pin.ty = subst (λ u. HasType sh (AtPin one.stand.number) u) (sym t.0) t.1 in (
           subst (IsVariable vars (target_by h)) (sym r.typed) target_is.variable,
           stored mods.negated mods.storage (link_at pous p st.pins).ty (λ m. r.typed ∙ sym t.0 ∙ pin_modified pous p tys marks k keeps v e st.element f one.pin one.stand has m),
           r.fits,
@@ -242,16 +241,14 @@ module _ (project : Project) (links : Links) (types : Types) (plan : Plan) (soun
     kind_fits block kind.LeftRail is = tt
     kind_fits block (kind.RightRail input) is = tt
     kind_fits block (kind.Contact input text mods) is =
-        let n = kind.Contact input text mods in
-        (
+        let n = kind.Contact input text mods in (
           contact_reads text (text_held pous p text) refl (held_there n is) (λ t h. operand_bool t (ap (λ (x : Form). x.operand) (form_there n is) ∙ h)),
           truth_at n is (form_pin v (Some (class.Fixed ty.Bool)) false) refl refl input refl (source_there n is) (few_there n is).0 (contains_first _ []),
         )
     kind_fits block (kind.Coil input text mods) is =
         let n = kind.Coil input text mods in
         let r = target text (text_held pous p text) refl (written n is) in
-        let bool = operand_bool r.ty (ap (λ (x : Form). x.operand) (form_there n is) ∙ r.gives) in
-        (
+        let bool = operand_bool r.ty (ap (λ (x : Form). x.operand) (form_there n is) ∙ r.gives) in (
           subst (IsVariable vars (target_by (text_held pous p text))) bool r.variable,
           truth_at n is (form_pin v (Some (class.Fixed ty.Bool)) false) refl refl input refl (source_there n is) (few_there n is).0 (contains_first _ []),
           r.written,
@@ -261,7 +258,7 @@ module _ (project : Project) (links : Links) (types : Types) (plan : Plan) (soun
         let first : Source = record { element = v; pin = 0 } in
         let out : output_at sh first ≡ record { gives = gives_held (text_held pous p text); negated = mods.negated } = ap (λ (x : Form). output_among x.outputs 0) (form_there n is) in
         reading_fits text mods.negated (text_held pous p text) refl (held_there n is) (λ negated t h. one_type t ty.Bool (λ differ. keeps.agrees v e st.element
-            (OutputIsNoBool refl (ap (λ (x : Out). x.negated) out ∙ negated) (DeclaredOutput (ap (λ (x : Out). x.gives) out ∙ h)) differ)))
+        (OutputIsNoBool refl (ap (λ (x : Out). x.negated) out ∙ negated) (DeclaredOutput (ap (λ (x : Out). x.gives) out ∙ h)) differ)))
     kind_fits block (kind.Out input text mods) is = out_at text mods input is
     kind_fits block (kind.Block type_name instance inputs in_outs outputs) is = block type_name instance inputs in_outs outputs is
     kind_fits block (kind.Connector name input) is =

@@ -3,3 +3,4 @@ pub mod Sheets
 pub mod Flows
 pub mod Tests
 pub mod Faults
+pub mod Building

@@ -4,5 +4,6 @@
 mod closure;
 mod faults;
 mod flow;
+mod forms;
 mod outputs;
 mod rules;
