@@ -59,6 +59,7 @@ use Rattle.plcx_view.specs.Operands.{target_by}
 use Rattle.plcx_view.specs.Pins.{Feed}
 use Rattle.plcx_view.specs.Pins as view
 use Rattle.plcx_fits.proofs.Agreed.{Keeps, form_is, one_type, pin_fixed, pin_agrees}
+use Rattle.plcx_fits.proofs.Enables.{enable_fits}
 use Rattle.plcx_fits.proofs.Given.{filter_has, any_from, AreGiven, IsBefore, standing, reads, link_fits, link_has}
 use Rattle.plcx_fits.proofs.Held.{held_is}
 use Rattle.plcx_fits.proofs.Instances.{TypeOf, OfStandard, OfBlock, InstanceIs, instance_is, IsWithin, block_type, inputs_within, in_outs_within, outputs_within, formal_within}
@@ -410,6 +411,14 @@ module _ (project : Project) (links : Links) (types : Types) (plan : Plan) (soun
     formals = names_apart;
   }
 
-  -- a call suits its POU, where its EN does
-  pub call_kind_fits : EnableFits at (enable_of pous p Inputs outputs) → KindFits at (kind_of pous p st.pins the_kind)
-  call_kind_fits enables = subst (KindFits at) (sym (sym (ap (kind_of pous p st.pins) is) ∙ kind_is)) (call_fits, enables)
+  of_block : kind_of pous p st.pins the_kind ≡ Call
+  of_block = sym (ap (kind_of pous p st.pins) is) ∙ kind_is
+
+  enables : EnableFits at (enable_of pous p Inputs outputs)
+  enables = enable_fits pous p tys marks dia networks k keeps given D v e st before type_name instance inputs in_outs outputs is c called
+      (λ link there. subst (λ (n : diagram.ElementKind). Contains (links_of n) link) (sym of_block)
+          (Contains-append_left (enable_links (enable_of pous p Inputs outputs)) (map (λ (i : InputPin). i.link) (map (input_pin pous p c inputs) taken)) link there))
+
+  -- a call suits its POU
+  pub call_kind_fits : KindFits at (kind_of pous p st.pins the_kind)
+  call_kind_fits = subst (KindFits at) (sym of_block) (call_fits, enables)

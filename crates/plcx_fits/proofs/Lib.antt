@@ -25,3 +25,4 @@ mod Joined
 mod Instances
 mod Lent
 mod Calls
+mod Ordered
