@@ -23,6 +23,7 @@ mod Enables
 mod Functions
 mod Joined
 mod Instances
+mod Lenders
 mod Lent
 mod Calls
 mod Ordered
