@@ -1,11 +1,9 @@
 -- What `check` answers, and what its steps do.
 use Rattle.std.specs.Prelude.{◌≡◌, Some, None}
-use Rattle.plcx_model.specs.declared.plan.Links.{Links}
 use Rattle.plcx_model.specs.declared.plan.Types.{Types}
 use Rattle.plcx_model.specs.declared.plan.Plan.{Plan}
 use Rattle.plcx_model.specs.declared.project.Project.{Project}
 use Rattle.plcx_rules.specs.CheckVerdict.{CheckVerdict}
-use Rattle.plcx_rules.specs.LinkRules.{LinkVerdict}
 use Rattle.plcx_rules.specs.Sources.{links_of}
 use Rattle.plcx_rules.specs.Typed.{HaveTypes}
 use Rattle.plcx_rules.specs.TypingRules.{TypingVerdict}
@@ -18,11 +16,6 @@ use Rattle.plcx_check.specs.declared.error.CheckError.{CheckError}
 use Rattle.plcx_check.specs.declared.error.CheckError.TheVariants.{Broken, NoMemory}
 
 -- ---- the steps
-
--- the links of a project that breaks none of the rules on them
-pub record IsLinkedBy (project : Project) (links : Links) : Type 0 where
-  pub verdict : LinkVerdict project None
-  pub bodies : links.bodies ≡ links_of project.pous
 
 -- the types of a project that breaks none of the rules on them
 pub record IsTypedBy (project : Project) (types : Types) : Type 0 where

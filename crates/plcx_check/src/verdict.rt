@@ -1,7 +1,8 @@
 //! The verdict: links, then types, then plans.
 ghost use Rattle.std.specs.Prelude.{◌≡◌, MatchResult};
 ghost use Rattle.plcx_model.specs.Sound.{Sound};
-ghost use Rattle.plcx_check.specs.Checks.{IsLinkedBy, IsTypedBy, IsPlannedBy, IsFound, Stops, IsCheckedOf, Refuses};
+ghost use Rattle.plcx_link.specs.Linked.{IsLinked};
+ghost use Rattle.plcx_check.specs.Checks.{IsTypedBy, IsPlannedBy, IsFound, Stops, IsCheckedOf, Refuses};
 
 use crate::checked::Checked;
 use crate::error::CheckError;
@@ -29,7 +30,7 @@ pub(crate) enum Stop {
 
 /// Rules 20 to 33.
 fn linked(alloc: Global, project: &Project) -> Result<Links, Stop>
-    ensures { MatchResult result (IsLinkedBy project.now) (Stops project.now) }
+    ensures { MatchResult result (IsLinked project.now) (Stops project.now) }
 {
     match link(alloc, project) {
         Ok(links) => Ok(links),
@@ -40,7 +41,7 @@ fn linked(alloc: Global, project: &Project) -> Result<Links, Stop>
 
 /// Rules 34 to 36.
 fn typed(alloc: Global, project: &Project, links: &Links) -> Result<Types, Stop>
-    requires { IsLinkedBy project.now links.now }
+    requires { IsLinked project.now links.now }
     ensures { MatchResult result (IsTypedBy project.now) (Stops project.now) }
 {
     match typing(alloc, project, links) {
@@ -53,7 +54,7 @@ fn typed(alloc: Global, project: &Project, links: &Links) -> Result<Types, Stop>
 /// Networks, feedback and orders.
 fn planned(alloc: Global, project: &Project, links: &Links) -> Result<Plan, Stop>
     requires sound { Sound project.now }
-    requires links { IsLinkedBy project.now links.now }
+    requires links { IsLinked project.now links.now }
     ensures { MatchResult result (IsPlannedBy project.now) (Stops project.now) }
 {
     match plan(alloc, project.pous(), links) {

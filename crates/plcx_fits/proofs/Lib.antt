@@ -19,4 +19,11 @@ mod Given
 mod Suited
 mod Wired
 mod Outputs
+mod Enables
+mod Functions
 mod Joined
+mod Instances
+mod Lenders
+mod Lent
+mod Calls
+mod Ordered

@@ -1,2 +1,3 @@
 -- What is said of the diagrams of checked projects.
 pub mod Networks
+pub mod Laws

@@ -9,8 +9,8 @@ returns c =
     let types = c.in_ok-types.ensures in
     record {
       sound = c.requires;
-      verdict = Unbroken links.verdict types.verdict;
-      linked = links.bodies;
-      typed = subst (λ bodies. HaveTypes c.args.project.now.pous bodies c.in_ok-types.types) (sym links.bodies) types.bodies;
+      verdict = Unbroken links.kept types.verdict;
+      linked = links.sources;
+      typed = subst (λ bodies. HaveTypes c.args.project.now.pous bodies c.in_ok-types.types) (sym links.sources) types.bodies;
       planned = c.in_ok-plan.ensures;
     }
