@@ -116,7 +116,7 @@ found_in {X} p P each (x ∷ xs) h = first (found_in p P each xs) (p x) refl h
 pub any_decides : {X : Type 0} (p : X → Bool) (P : X → Type 0) → ((x : X) → Decides (p x) (P x)) → (xs : List X) → Decides (list_any p xs) ((x : X) × Contains xs x × P x)
 any_decides p P each xs = (found_in p P (λ x. (each x).0) xs, (λ h. list_any_at p xs h.1.0 h.0 h.1.1 (ap p h.1.2 ∙ (each h.0).1 h.2)))
 
-type_listed : (t : Ty) → Contains all_types t
+pub type_listed : (t : Ty) → Contains all_types t
 type_listed ty.Bool = (0, omega arith, refl)
 type_listed ty.Byte = (1, omega arith, refl)
 type_listed ty.Word = (2, omega arith, refl)

@@ -5,3 +5,5 @@ pub mod Faulting
 pub mod Built
 pub mod OneType
 pub mod Single
+pub mod Verdicts
+pub mod Bodies

@@ -155,11 +155,14 @@ module _ (pous : List Pou) (p : Pou) where
             ]
       ]
 
+  pub placed_in : (xs : List BodyElement) → ArePlaced (length (map (λ (y : BodyElement). form_of pous p y.kind) xs)) (pins_from pous p 0 xs)
+  placed_in xs i d h =
+      let range = owners 0 xs i h in
+      let same : get_or (pins 0 xs) i d ≡ get_or (pins 0 xs) i no_pin = get_or_default (pins 0 xs) i d no_pin h in
+      omega (arith, range.1, ap (λ (q : Pin). q.element) same, length-map xs (λ (y : BodyElement). form_of pous p y.kind))
+
   pub placed : (sources : List (List Source)) → ArePlaced (length (sheet_of pous p sources).forms) (sheet_of pous p sources).pins
-  placed sources i d h =
-      let range = owners 0 p.body.elements i h in
-      let same : get_or (pins 0 p.body.elements) i d ≡ get_or (pins 0 p.body.elements) i no_pin = get_or_default (pins 0 p.body.elements) i d no_pin h in
-      omega (arith, range.1, ap (λ (q : Pin). q.element) same, length-map p.body.elements (λ (y : BodyElement). form_of pous p y.kind))
+  placed sources = placed_in p.body.elements
 
   pub one_pin_each : (sources : List (List Source)) → HaveOnePin (sheet_of pous p sources)
   one_pin_each sources x i j passing a b =

@@ -4,3 +4,5 @@ pub mod Flows
 pub mod Tests
 pub mod Faults
 pub mod Building
+pub mod Judgings
+pub mod Answers
