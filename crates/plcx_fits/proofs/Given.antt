@@ -47,7 +47,7 @@ use Rattle.plcx_fits.proofs.Places.{IsMarked, sources_of, bare, pins, sheet, wir
 
 -- ---- lists
 
-any_from : {A : Type 0} (test : A → Bool) (xs : List A) (x : A) → Contains xs x → test x ≡ true → list_any test xs ≡ true
+pub any_from : {A : Type 0} (test : A → Bool) (xs : List A) (x : A) → Contains xs x → test x ≡ true → list_any test xs ≡ true
 any_from test [] x there is = absurd (contains_none x there)
 any_from test (y ∷ ys) x there is = elim (contains_cases y ys x there) [ inl e ↦ first (test y) (list_any test ys) (subst (λ z. test z ≡ true) (sym e) is) | inr k ↦ later (test y) (list_any test ys) (any_from test ys x k is) ]
   where

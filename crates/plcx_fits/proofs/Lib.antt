@@ -22,3 +22,7 @@ mod Outputs
 mod Enables
 mod Functions
 mod Joined
+mod Instances
+mod Lent
+mod Calls
+mod Ordered

@@ -36,7 +36,7 @@ use Rattle.plcx_model.specs.declared.project.Variable.{Variable}
 use Rattle.plcx_model.specs.declared.project.VarList.{VarList}
 use Rattle.plcx_model.specs.declared.project.Pou.{Pou}
 use Rattle.plcx_model.specs.declared.project.Project.{Project}
-use Rattle.plcx_model.specs.Sound.{IsKnown, VariableIsSound, ListIsSound, PouIsSound, Sound}
+use Rattle.plcx_model.specs.Sound.{IsKnown, MayHold, VariableIsSound, ListIsSound, PouIsSound, Sound}
 use Rattle.plcx_rules.specs.Texts.{same_name}
 use Rattle.plcx_rules.specs.Declarations.{Declaration, declared_in, declarations_of, is_of_name, declaration_named, plain_type, same_class, can_be_written}
 use Rattle.plcx_rules.specs.Callees.{BlockPin, standard_pins, pin_of, block_pins, pins_where, outputs_of_type, pin_named}
@@ -50,6 +50,9 @@ use Rattle.plcx_fits.proofs.Nests.{block_world}
 use Rattle.plcx_fits.proofs.Spelled.{kind_of_name, whole}
 use Rattle.plcx_fits.proofs.Variables.{is_block, variables_differ}
 
+abbrev pub IsOther : ListClass → Type 0
+IsOther c = c ≢ class.Local
+
 -- a variable of the diagram is a declared one
 pub record IsShown (pous : List Pou) (d : Declaration) (v : layout.Variable) : Type 0 where
   pub name : v.name ≡ d.variable.name
@@ -57,6 +60,13 @@ pub record IsShown (pous : List Pou) (d : Declaration) (v : layout.Variable) : T
   pub class : v.class ≡ class_of d.class
   pub mark : d.constant ≡ false → v.mark ≢ tree.Constant
   pub known : IsKnown pous d.variable.ty
+  pub plain : IsOther d.class → (t : Ty) × (d.variable.ty ≡ Plain t)
+
+-- an instance is local
+plain_there : (l : VarList) (t : VarTy) → MayHold l t → l.class ≢ class.Local → (u : Ty) × (t ≡ Plain u)
+plain_there l (Plain u) may other = (u, refl)
+plain_there l (Std k) may other = absurd (other may.0)
+plain_there l (Block place) may other = absurd (other may.0)
 
 no_constant : (constant retain : Bool) → constant ≡ false → mark_by constant retain ≢ tree.Constant
 no_constant true retain h = λ e. cc
@@ -102,7 +112,7 @@ along_append R (x ∷ xs) zs (y ∷ ys) ws a b = (a.0, along_append R xs zs ys w
 list_shown : (pous : List Pou) (l : VarList) (vs : List Variable) → Each (VariableIsSound pous l) vs
     → Along (IsShown pous) (map (λ (v : Variable). let d : Declaration = record { class = l.class; constant = l.constant; variable = v } in d) vs) (map (layout.variable (class_of l.class) (mark_of l)) (map (declaration_of pous) vs))
 list_shown pous l [] s = tt
-list_shown pous l (v ∷ vs) s = (record { name = refl; ty = refl; class = refl; mark = no_constant l.constant l.retain; known = s.0.known }, list_shown pous l vs s.1)
+list_shown pous l (v ∷ vs) s = (record { name = refl; ty = refl; class = refl; mark = no_constant l.constant l.retain; known = s.0.known; plain = plain_there l v.ty s.0.instance }, list_shown pous l vs s.1)
 
 lists_shown : (pous : List Pou) (k : PouKind) (lists : List VarList) → Each (ListIsSound pous k) lists → Along (IsShown pous) (flat_map declared_in lists) (layout.variables_of (map (list_of pous) lists))
 lists_shown pous k [] s = tt
@@ -222,7 +232,7 @@ module _ (project : Project) (links : Links) (types : Types) (plan : Plan) (soun
   abbrev pub shown_variables : Pou → List layout.Variable
   shown_variables p = layout.variables_of (lists_of pous p)
 
-  along_lists : (p : Pou) → PouIsSound pous p → Along (IsShown pous) (declarations_of p) (shown_variables p)
+  pub along_lists : (p : Pou) → PouIsSound pous p → Along (IsShown pous) (declarations_of p) (shown_variables p)
   along_lists p s = lists_shown pous p.kind p.lists s.lists
 
   pub declared_there : (p : Pou) → PouIsSound pous p → (name : List ℕ) (d : Declaration) → declaration_named p name ≡ Some d → Found pous (shown_variables p) d
@@ -283,7 +293,7 @@ module _ (project : Project) (links : Links) (types : Types) (plan : Plan) (soun
         parts = ap (composed (world_of dia)) (sym f.shown.ty);
       }
 
-  within_standard : (k : StdKind) → within (Std k) ≡ layout.variables_of (pin_blocks k)
+  pub within_standard : (k : StdKind) → within (Std k) ≡ layout.variables_of (pin_blocks k)
   within_standard k = let facts = kind_of_name k in rw (facts.0, composed) refl
 
   pub within_block : (place : ℕ) (h : IsKnown pous (Block place)) → within (Block place) ≡ shown_variables h.0

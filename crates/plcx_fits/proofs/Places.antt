@@ -16,7 +16,7 @@ use Rattle.plcx_model.specs.declared.project.Pou.{Pou}
 use Rattle.plcx_model.specs.declared.source.Source.{Source}
 use Rattle.plcx_model.specs.declared.source.Wire.{Wire}
 use Rattle.plcx_model.specs.Graph.{wire_at, to_at}
-use Rattle.plcx_model.specs.Numbering.{pins_of, wires_at_pin, wires_at_pins}
+use Rattle.plcx_model.specs.Numbering.{pins_of, pins_in, wires_at_pin, wires_at_pins}
 use Rattle.plcx_model.specs.Numbering as numbering
 use Rattle.plcx_rules.specs.declared.callee.Callee.{Callee}
 use Rattle.plcx_rules.specs.declared.form.Pin.{Pin}
@@ -137,6 +137,53 @@ module _ (pous : List Pou) (p : Pou) (tys : List Ty) (marks : List Bool) where
     sources : map sources_of (take (length F) (view.pins_from T S M)) ≡ take (length F) S
     left : S' ≡ drop (length F) S
 
+  pub form_count : (v : ℕ) (k : Kind) → pins_of k ≡ length (element_pins pous p v k)
+  unfolding element_pins block_pins
+  form_count v kind.Skipped = refl
+  form_count v kind.LeftRail = refl
+  form_count v (kind.RightRail input) = refl
+  form_count v (kind.Contact input text mods) = refl
+  form_count v (kind.Coil input text mods) = refl
+  form_count v (kind.In text mods) = refl
+  form_count v (kind.Out input text mods) = refl
+  form_count v (kind.Block type_name instance inputs in_outs outputs) =
+      let c = callee_named pous type_name in
+      let f : PinIn → Pin = λ i. pin v (input_class_of pous c inputs i) i.mods.negated in
+      let g : PinIn → Pin = λ i. pin v (in_out_class_of pous c i) i.mods.negated in
+      sym (length-append (map f inputs) (map g in_outs) ∙ ap₂ (λ a b. a + b) (length_mapped f inputs) (length_mapped g in_outs))
+  form_count v (kind.Connector name input) = refl
+  form_count v (kind.Continuation name) = refl
+  form_count v (kind.Label name) = refl
+  form_count v (kind.Jump label input) = refl
+  form_count v (kind.Return input) = refl
+
+  own_forms : (v : ℕ) (k : Kind) → Each (λ (f : Pin). f.element ≡ v) (element_pins pous p v k)
+  unfolding element_pins block_pins
+  own_forms v kind.Skipped = tt
+  own_forms v kind.LeftRail = tt
+  own_forms v (kind.RightRail input) = (refl, tt)
+  own_forms v (kind.Contact input text mods) = (refl, tt)
+  own_forms v (kind.Coil input text mods) = (refl, tt)
+  own_forms v (kind.In text mods) = tt
+  own_forms v (kind.Out input text mods) = (refl, tt)
+  own_forms v (kind.Block type_name instance inputs in_outs outputs) =
+      let c = callee_named pous type_name in
+      let f : PinIn → Pin = λ i. pin v (input_class_of pous c inputs i) i.mods.negated in
+      let g : PinIn → Pin = λ i. pin v (in_out_class_of pous c i) i.mods.negated in
+      let Own : Pin → Type 0 = λ (x : Pin). x.element ≡ v in
+      each_append Own (map f inputs) (map g in_outs) (each_mapped Own f inputs (λ i. refl)) (each_mapped Own g in_outs (λ i. refl))
+  own_forms v (kind.Connector name input) = (refl, tt)
+  own_forms v (kind.Continuation name) = (refl, tt)
+  own_forms v (kind.Label name) = tt
+  own_forms v (kind.Jump label input) = (refl, tt)
+  own_forms v (kind.Return input) = (refl, tt)
+
+  -- as many forms as pins
+  pub pins_counted : (v : ℕ) (es : List BodyElement) → pins_in es ≡ length (forms.pins_from pous p v es)
+  pins_counted v [] = refl
+  pins_counted v (x ∷ es) =
+      ap₂ (λ a b. a + b) (form_count v x.kind) (pins_counted (v + 1) es) ∙ sym (length-append (element_pins pous p v x.kind) (forms.pins_from pous p (v + 1) es))
+
   module _ (typed : length tys ≡ length sheet.pins) (sourced : length links ≡ length sheet.pins) (marked : length marks ≡ length wires) where
     pins_stand : (v j : ℕ) (F more : List Pin) (n w : ℕ) (T : List Ty) (S : List (List Source)) (W : List Wire) (M : List Bool)
         → Each (λ (f : Pin). f.element ≡ v) F → At n w (F ++ more) T S (wires_at_pins v j (take (length F) S) ++ W) M → PinsStand v F more W T S M
@@ -175,47 +222,6 @@ module _ (pous : List Pou) (p : Pou) (tys : List Ty) (marks : List Bool) where
           sources = ap₂ (λ x l. x ∷ l) fed.same r.sources;
           left = r.left;
         }
-
-    form_count : (v : ℕ) (k : Kind) → pins_of k ≡ length (element_pins pous p v k)
-    unfolding element_pins block_pins
-    form_count v kind.Skipped = refl
-    form_count v kind.LeftRail = refl
-    form_count v (kind.RightRail input) = refl
-    form_count v (kind.Contact input text mods) = refl
-    form_count v (kind.Coil input text mods) = refl
-    form_count v (kind.In text mods) = refl
-    form_count v (kind.Out input text mods) = refl
-    form_count v (kind.Block type_name instance inputs in_outs outputs) =
-        let c = callee_named pous type_name in
-        let f : PinIn → Pin = λ i. pin v (input_class_of pous c inputs i) i.mods.negated in
-        let g : PinIn → Pin = λ i. pin v (in_out_class_of pous c i) i.mods.negated in
-        sym (length-append (map f inputs) (map g in_outs) ∙ ap₂ (λ a b. a + b) (length_mapped f inputs) (length_mapped g in_outs))
-    form_count v (kind.Connector name input) = refl
-    form_count v (kind.Continuation name) = refl
-    form_count v (kind.Label name) = refl
-    form_count v (kind.Jump label input) = refl
-    form_count v (kind.Return input) = refl
-
-    own_forms : (v : ℕ) (k : Kind) → Each (λ (f : Pin). f.element ≡ v) (element_pins pous p v k)
-    unfolding element_pins block_pins
-    own_forms v kind.Skipped = tt
-    own_forms v kind.LeftRail = tt
-    own_forms v (kind.RightRail input) = (refl, tt)
-    own_forms v (kind.Contact input text mods) = (refl, tt)
-    own_forms v (kind.Coil input text mods) = (refl, tt)
-    own_forms v (kind.In text mods) = tt
-    own_forms v (kind.Out input text mods) = (refl, tt)
-    own_forms v (kind.Block type_name instance inputs in_outs outputs) =
-        let c = callee_named pous type_name in
-        let f : PinIn → Pin = λ i. pin v (input_class_of pous c inputs i) i.mods.negated in
-        let g : PinIn → Pin = λ i. pin v (in_out_class_of pous c i) i.mods.negated in
-        let Own : Pin → Type 0 = λ (x : Pin). x.element ≡ v in
-        each_append Own (map f inputs) (map g in_outs) (each_mapped Own f inputs (λ i. refl)) (each_mapped Own g in_outs (λ i. refl))
-    own_forms v (kind.Connector name input) = (refl, tt)
-    own_forms v (kind.Continuation name) = (refl, tt)
-    own_forms v (kind.Label name) = tt
-    own_forms v (kind.Jump label input) = (refl, tt)
-    own_forms v (kind.Return input) = (refl, tt)
 
     abbrev of_all : List BodyElement → List (List Source)
     of_all rest = flat_map (λ (e : BodyElement). pins_with_sources body e.kind) rest
