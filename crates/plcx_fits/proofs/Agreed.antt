@@ -1,11 +1,10 @@
 -- What a body keeps that breaks no rule, and which types its pins have by that.
-use Rattle.std.proofs.Common.{◌≡◌, ◌≢◌, ℕ, zero, suc, ◌+◌, ◌<◌, ◌≤◌, ◌↔◌, Bool, true, false, List, [], ◌∷◌, map, length, get_or, Option, Some, None, slice_get, refl, sym, ap, ◌∙◌, subst, arith}
+use Rattle.std.proofs.Common.{◌≡◌, ◌≢◌, ℕ, ◌<◌, ◌≤◌, Bool, true, false, List, map, length, get_or, Option, Some, None, slice_get, refl, sym, ap, ◌∙◌, subst}
 use Rattle.std.specs.Prelude.{ℤ}
 use Rattle.std.specs.List.{Contains}
 use Rattle.std.proofs.lemmas.Option.{slice_get-map, get_or_from_slice_get}
 use Rattle.plcx_types.specs.declared.ty.Ty.{Ty}
 use Rattle.plcx_types.specs.declared.ty.Ty.TheVariants as ty
-use Rattle.plcx_types.specs.Lists.{Each}
 use Rattle.plcx_types.specs.Range.{InRange}
 use Rattle.plcx_types.specs.TypeName.{same_ty}
 use Rattle.plcx_types.proofs.TypeTable.{same_is}
@@ -18,19 +17,17 @@ use Rattle.plcx_model.specs.declared.project.Pou.{Pou}
 use Rattle.plcx_model.specs.declared.source.Source.{Source}
 use Rattle.plcx_model.specs.Sound.{PouIsSound}
 use Rattle.plcx_rules.specs.declared.form.Form.{Form}
-use Rattle.plcx_rules.specs.declared.form.Gives.{Gives}
-use Rattle.plcx_rules.specs.declared.form.Gives.TheVariants.{Typed, Untyped}
 use Rattle.plcx_rules.specs.declared.form.Grouping.TheVariants.{Apart}
 use Rattle.plcx_rules.specs.declared.form.Pin.{Pin}
 use Rattle.plcx_rules.specs.declared.rule.LinkRule.{LinkRule}
 use Rattle.plcx_rules.specs.Forms.{form_of}
 use Rattle.plcx_rules.specs.Laws.{AreOutputs, AreCounted}
 use Rattle.plcx_rules.specs.LinkRules.{breaks}
-use Rattle.plcx_rules.specs.Types.{form_at, pin_at, sources_at, output_at, gives_at, is_untyped, no_form, IsPinOf, AtPin, AtGroup, AtOutput, HasType, DeclaredPin, DeclaredOutput, PinOfGroup, LoneOfLiteral, TakenAt, Takes}
-use Rattle.plcx_rules.specs.TypingRules.{Disagrees, SourceDiffers, SeveralMeet, PinIsNoBool, OutputIsNoBool, LiteralIsNoBool, IsOutside, HasNoType}
+use Rattle.plcx_rules.specs.Types.{form_at, pin_at, sources_at, gives_at, is_untyped, no_form, IsPinOf, AtPin, AtGroup, AtOutput, HasType, DeclaredPin, PinOfGroup, LoneOfLiteral, TakenAt, Takes}
+use Rattle.plcx_rules.specs.TypingRules.{Disagrees, SourceDiffers, SeveralMeet, PinIsNoBool, IsOutside}
 use Rattle.plcx_view.specs.Pins as view
 use Rattle.plcx_fits.proofs.Judged.{item}
-use Rattle.plcx_fits.proofs.Places.{body, links, sheet, wires, sources_of, Stands}
+use Rattle.plcx_fits.proofs.Places.{links, sheet, wires, sources_of, Stands}
 
 -- types are one unless they differ
 pub one_type : (t u : Ty) → ((t ≢ u) → ⊥) → t ≡ u

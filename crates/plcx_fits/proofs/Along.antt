@@ -1,5 +1,5 @@
 -- Lists from a place on, and lists whose items go together.
-use Rattle.std.proofs.Common.{◌≡◌, ℕ, zero, suc, ◌+◌, ◌<◌, List, [], ◌∷◌, ◌++◌, map, length, take, drop, Some, slice_get, refl, sym, ap, ◌∙◌, arith}
+use Rattle.std.proofs.Common.{◌≡◌, ℕ, zero, suc, ◌+◌, List, [], ◌∷◌, ◌++◌, map, length, take, drop, Some, slice_get, refl, ap, ◌∙◌, arith}
 use Rattle.plcx_types.specs.Lists.{Each}
 
 -- each item of the one with that of the other

@@ -1,24 +1,23 @@
 -- The inputs, in-outs and outputs of a call suit what is called.
-use Rattle.std.proofs.Common.{◌≡◌, ◌≢◌, ℕ, zero, suc, ◌+◌, ◌<◌, ◌≤◌, Bool, true, false, cond, not, ◌&&◌, ◌||◌, List, [], ◌∷◌, ◌++◌, map, length, drop, Option, Some, None, slice_get, refl, sym, ap, ◌∙◌, subst, arith}
-use Rattle.std.specs.Prelude.{is_some, is_none, nat_eq, option_and_then, option_map}
-use Rattle.std.specs.List.{Contains, find, filter, filter_map, list_any, list_all, zip}
+use Rattle.std.proofs.Common.{◌≡◌, ℕ, suc, ◌≤◌, Bool, true, false, cond, not, ◌&&◌, ◌||◌, List, [], ◌∷◌, ◌++◌, map, length, drop, Option, Some, None, slice_get, refl, sym, ap, ◌∙◌, subst, arith}
+use Rattle.std.specs.Prelude.{is_none, nat_eq}
+use Rattle.std.specs.List.{Contains, find, list_any, zip}
 use Rattle.std.proofs.lemmas.Bool.{or_parts, eqb-true}
 use Rattle.plcx_types.specs.declared.ty.Ty.{Ty}
 use Rattle.plcx_types.specs.declared.ty.Ty.TheVariants as ty
 use Rattle.plcx_types.specs.Lists.{Each}
 use Rattle.plcx_types.specs.Name.{in_lower_case}
-use Rattle.plcx_funcs.specs.declared.pins.Class.{Class}
 use Rattle.plcx_funcs.specs.declared.pins.Class.TheVariants as class
 use Rattle.plcx_meaning.specs.Diagram as diagram
 use Rattle.plcx_meaning.specs.Diagram.{Link, InputPin, InOutPin, OutputPin, Enable, Port, links_of, enable_links}
 use Rattle.plcx_meaning.specs.Evaluate.{world_of}
-use Rattle.plcx_meaning.specs.Fits.{Standing, IsInstance, all_listed, HasType, IsVariable, CanBeWritten, InputFits, InOutFits, OutputFits, LinkFits, KindFits, EnableFits, CallFits}
+use Rattle.plcx_meaning.specs.Fits.{Standing, IsInstance, all_listed, HasType, IsVariable, CanBeWritten, InputFits, InOutFits, OutputFits, KindFits, EnableFits, CallFits}
 use Rattle.plcx_meaning.specs.Layout as layout
 use Rattle.plcx_meaning.specs.Tree as tree
 use Rattle.plcx_meaning.specs.Base.{are_distinct}
 use Rattle.plcx_meaning.proofs.Names.{bytes_same, bytes_self}
 use Rattle.std.specs.Str.{bytes_eq}
-use Rattle.plcx_meaning.proofs.Lists.{contains_first, contains_later, contains_map, IsNew, distinct_join, each_at, each_from, each_map, each_weaker, none_passes, passing}
+use Rattle.plcx_meaning.proofs.Lists.{contains_first, contains_map, IsNew, distinct_join, each_at, each_from, each_map, each_weaker, none_passes, passing}
 use Rattle.std.proofs.lemmas.List.Elements.{Contains-append_left, Contains-append_right}
 use Rattle.plcx_model.specs.declared.body.Connection.{Connection}
 use Rattle.plcx_model.specs.declared.body.Mods.{Mods}
@@ -41,40 +40,38 @@ use Rattle.plcx_rules.specs.declared.callee.Callee.TheVariants as callee
 use Rattle.plcx_rules.specs.declared.form.Form.{Form}
 use Rattle.plcx_rules.specs.declared.form.Out.{Out}
 use Rattle.plcx_rules.specs.declared.form.Pin.{Pin}
-use Rattle.plcx_rules.specs.declared.form.Gives.TheVariants.{Typed}
 use Rattle.plcx_rules.specs.declared.rule.LinkRule.TheVariants as rule
 use Rattle.plcx_rules.specs.Texts.{same_name}
-use Rattle.plcx_rules.specs.Declarations.{declarations_of, can_be_written}
+use Rattle.plcx_rules.specs.Declarations.{declarations_of}
 use Rattle.plcx_rules.specs.Callees.{Formal, BlockPin, pins_where, enable, enabled, fixed, callee_named, names_function, inputs_of, in_outs_of, outputs_of, formal_named, is_enable, is_connected, is_absent, present, input_count, input_formal, in_out_formal, is_eno, output_name, output_formal, is_function}
 use Rattle.plcx_rules.specs.Forms.{gives_held, text_gives, gives_class, class_of, form_of}
 use Rattle.plcx_rules.specs.Helds.{Held, OfLiteral, OfVariable, OfInstance, OfOutput, text_held, is_target}
 use Rattle.plcx_rules.specs.LinkRules.{breaks, lacks_source, breaks_instance, instance_fails, breaks_formals, formals_fail, inputs_fail, in_outs_fail, outputs_fail, has_double, names_of, has_one, is_unconnected, lends, producer_is, any_lender, breaks_target, is_listed}
-use Rattle.plcx_rules.specs.Sources.{place_of_id, producer, source, source_at, source_of, sources_at, output_place}
-use Rattle.plcx_rules.specs.Types.{Sheet, form_at, output_among, output_at, AtPin, AtOutput, HasType as Has, DeclaredOutput}
+use Rattle.plcx_rules.specs.Sources.{producer}
+use Rattle.plcx_rules.specs.Types.{Sheet, output_among, AtPin, AtOutput, HasType as Has, DeclaredOutput}
 use Rattle.plcx_rules.specs.TypingRules.{OutputIsNoBool}
 use Rattle.plcx_view.specs.Blocks.{Wired, wired_link, is_taken, among, beside, enable_of, input_pin, in_out_pin, output_pin, fixed_type, lent_by, lent_at, instance_of, call_by, block_by}
 use Rattle.plcx_view.specs.Kinds.{kind_of}
 use Rattle.plcx_view.specs.Links.{declared_name}
 use Rattle.plcx_view.specs.Operands.{target_by}
 use Rattle.plcx_view.specs.Pins.{Feed}
-use Rattle.plcx_view.specs.Pins as view
 use Rattle.plcx_fits.proofs.Agreed.{Keeps, form_is, one_type, pin_fixed, pin_agrees}
 use Rattle.plcx_fits.proofs.Enables.{enable_fits}
 use Rattle.plcx_fits.proofs.Given.{filter_has, any_from, AreGiven, IsBefore, standing, reads, link_fits, link_has}
 use Rattle.plcx_fits.proofs.Held.{held_is}
 use Rattle.plcx_fits.proofs.Instances.{TypeOf, OfStandard, OfBlock, InstanceIs, instance_is, IsWithin, block_type, inputs_within, in_outs_within, outputs_within, formal_within}
 use Rattle.plcx_fits.proofs.Lent.{pin_name, place_of, none_each, map_same, standard_listed, sides_differ, not_false, not_true, and_both, some_of, connected_some, producer_of, one_source, taken_distinct, bound_distinct, zip_has, listed_along, block_has}
-use Rattle.plcx_fits.proofs.Lists.{each_place, length_mapped}
-use Rattle.plcx_fits.proofs.Named.{IsPinOf, along_lists, within_standard, within_block, shown_variables, variable_there, written_there, declared_there, within, instance_there}
+use Rattle.plcx_fits.proofs.Lists.{each_place}
+use Rattle.plcx_fits.proofs.Named.{along_lists, within_standard, within_block, shown_variables, variable_there, written_there, declared_there, within, instance_there}
 use Rattle.plcx_fits.proofs.Outputs.{listed_out}
-use Rattle.plcx_fits.proofs.Places.{sources_of, sheet, Stands, ElementStands}
+use Rattle.plcx_fits.proofs.Places.{sources_of, sheet, ElementStands}
 use Rattle.plcx_fits.proofs.Spelled.{whole}
 use Rattle.plcx_fits.proofs.Wired.{each_filter, WiredStands, input_form, in_out_form, PinsOf, pins_of_block}
 
 module _ (project : Project) (links : Links) (types : Types) (plan : Plan) (sound : Sound project) (p : Pou) (tys : List Ty) (marks : List Bool) (networks : List (List ℕ)) (k : ℕ) (keeps : Keeps project.pous p tys marks k)
-         (given : AreGiven project.pous p tys marks) (D : List (ℕ × Port)) (v : ℕ) (e : BodyElement) (st : ElementStands project.pous p tys marks v e) (before : IsBefore project.pous p tys marks (whole project links types plan) networks v D)
-         (type_name : List ℕ) (instance : Option (List ℕ)) (inputs in_outs : List PinIn) (outputs : List PinOut) (is : e.kind ≡ kind.Block type_name instance inputs in_outs outputs)
-         (c : Callee) (called : callee_named project.pous type_name ≡ Some c) (block : is_function c ≡ false) where
+    (given : AreGiven project.pous p tys marks) (D : List (ℕ × Port)) (v : ℕ) (e : BodyElement) (st : ElementStands project.pous p tys marks v e) (before : IsBefore project.pous p tys marks (whole project links types plan) networks v D)
+    (type_name : List ℕ) (instance : Option (List ℕ)) (inputs in_outs : List PinIn) (outputs : List PinOut) (is : e.kind ≡ kind.Block type_name instance inputs in_outs outputs)
+    (c : Callee) (called : callee_named project.pous type_name ≡ Some c) (block : is_function c ≡ false) where
   abbrev pous : List Pou
   pous = project.pous
 
@@ -192,8 +189,7 @@ module _ (project : Project) (links : Links) (types : Types) (plan : Plan) (soun
       let some = connected_some w.0 parts.1 in
       let count = s.count in
       let few_there = each_at (λ (x : PinIn). length x.input ≤ 64) inputs w.0 few.2 s.there in
-      let name_is : declared_name (input_formal pous c inputs w.0) ≡ i.inside.pin.name = ap declared_name i.is_formal ∙ ap (λ (f : Formal). f.name) i.inside.is in
-      (
+      let name_is : declared_name (input_formal pous c inputs w.0) ≡ i.inside.pin.name = ap declared_name i.is_formal ∙ ap (λ (f : Formal). f.name) i.inside.is in (
         subst (λ n. HasType inner n (wired_link pous p w).ty (λ c. c ≡ tree.Input)) (sym name_is) (subst (λ t. HasType inner i.inside.pin.name t (λ c. c ≡ tree.Input)) (sym (link_has pous p w.0.mods.negated w.1 ∙ ty.0)) i.inside.there),
         link_fits pous p tys marks dia networks k keeps given D v e st.element before form w.1 s.stand has (reads pous p tys marks dia networks v e st w.0.mods.negated w.1 contained) w.0.mods.negated (λ h. h) (omega (arith, some, count)) (omega (arith, few_there, count)),
       )
@@ -300,8 +296,7 @@ module _ (project : Project) (links : Links) (types : Types) (plan : Plan) (soun
           let ty = pin_fixed pous p tys marks k keeps v e st.element form w.1 s.stand i.inside.pin.ty class_is in
           let agreed = pin_agrees pous p tys marks k keeps v e st.element form w.1 s.stand feed.0 lent.ty (subst (λ l. Contains l feed.0) (sym own) (contains_first feed.0 [])) (lent.typed feed.0 f.there) in
           let same : lent.ty ≡ i.inside.pin.ty = sym agreed ∙ ty.0 in
-          let variable_is : lent_by pous p (slice_get p.body.elements feed.0.element) ≡ lent_by pous p (Some f.element) = ap (lent_by pous p) f.there in
-          (
+          let variable_is : lent_by pous p (slice_get p.body.elements feed.0.element) ≡ lent_by pous p (Some f.element) = ap (lent_by pous p) f.there in (
             i.inside.pin.ty,
             subst (λ n. HasType inner n i.inside.pin.ty (λ x. x ≡ tree.InOut)) (sym name_is) i.inside.there,
             subst (λ n. IsVariable vars n i.inside.pin.ty) (sym variable_is) (subst (λ t. IsVariable vars (lent_by pous p (Some f.element)) t) same lent.variable),
@@ -316,13 +311,12 @@ module _ (project : Project) (links : Links) (types : Types) (plan : Plan) (soun
       let one = some_of (output_formal pous c outputs o) (none_passes (λ (x : PinOut). is_none (output_formal pous c outputs x)) outputs o formals.outputs_known there) in
       let no_eno = not_true (is_eno o) beside_eno in
       let formal_is : output_formal pous c outputs o ≡ find (λ (f : Formal). same_name o.formal f.name) (outputs_of pous c) =
-        ap (λ b. formal_named (output_name b outputs o) (enabled ∷ outputs_of pous c)) block ∙ ap (λ b. cond b (Some enabled) (find (λ (f : Formal). same_name o.formal f.name) (outputs_of pous c))) no_eno in
+      ap (λ b. formal_named (output_name b outputs o) (enabled ∷ outputs_of pous c)) block ∙ ap (λ b. cond b (Some enabled) (find (λ (f : Formal). same_name o.formal f.name) (outputs_of pous c))) no_eno in
       let r = (formal_within project links types plan sound inner tree.Output o.formal (outputs_of pous c) one.0 (outputs_within project links types plan sound c T instance_there'.typed known) (sym formal_is ∙ one.1)).0 in
       let name_is : declared_name (output_formal pous c outputs o) ≡ r.pin.name = ap declared_name one.1 ∙ ap (λ (f : Formal). f.name) r.is in
       let ty_is : fixed_type (output_formal pous c outputs o) ≡ r.pin.ty = ap fixed_type one.1 ∙ ap (λ (f : Formal). fixed_type (Some f)) r.is in
       let out = listed_out pous p tys marks k keeps v e st.element type_name instance inputs in_outs outputs is c called place.0 o place.1 in
-      let typed : Has sh (AtOutput (record { element = v; pin = place.0 })) r.pin.ty = DeclaredOutput (ap (λ (x : Out). x.gives) out ∙ ap (λ (x : Option Formal). gives_class (class_of x)) one.1 ∙ ap (λ (f : Formal). gives_class (Some f.class)) r.is) in
-      (
+      let typed : Has sh (AtOutput (record { element = v; pin = place.0 })) r.pin.ty = DeclaredOutput (ap (λ (x : Out). x.gives) out ∙ ap (λ (x : Option Formal). gives_class (class_of x)) one.1 ∙ ap (λ (f : Formal). gives_class (Some f.class)) r.is) in (
         subst (λ n. HasType inner n (fixed_type (output_formal pous c outputs o)) (λ x. x ≡ tree.Output)) (sym name_is) (subst (λ t. HasType inner r.pin.name t (λ x. x ≡ tree.Output)) (sym ty_is) r.there),
         (λ negated. ty_is ∙ one_type r.pin.ty ty.Bool (λ differ. keeps.agrees v e st.element (OutputIsNoBool refl (ap (λ (x : Out). x.negated) out ∙ negated) typed differ))),
       )
@@ -340,7 +334,7 @@ module _ (project : Project) (links : Links) (types : Types) (plan : Plan) (soun
       let r = in_out_is i.0 i.1 in
       let key : in_lower_case (declared_name (in_out_formal pous c i.0)) ≡ in_lower_case f.name = ap (λ (x : Option Formal). in_lower_case (declared_name x)) r.is_formal ∙ r.same ∙ sym (bytes_same (in_lower_case f.name) (in_lower_case i.0.formal) i.2) in
       any_from (λ (x : InOutPin). bytes_eq (in_lower_case x.name) (in_lower_case f.name)) bound (in_out_pin pous p c (i.0, pin.0)) (contains_map (in_out_pin pous p c) InOuts (i.0, pin.0) pin.1)
-          (ap (λ n. bytes_eq n (in_lower_case f.name)) key ∙ bytes_self (in_lower_case f.name))
+      (ap (λ n. bytes_eq n (in_lower_case f.name)) key ∙ bytes_self (in_lower_case f.name))
 
   all_by : (d : Callee) (t : VarTy) → TypeOf d t → IsKnown pous t → ((b : BlockPin) → Contains (in_outs_of pous d) (fixed b) → list_any (λ (i : InOutPin). bytes_eq (in_lower_case i.name) (in_lower_case b.name)) bound ≡ true)
       → all_listed bound (within project links types plan sound t) ≡ true
@@ -351,8 +345,8 @@ module _ (project : Project) (links : Links) (types : Types) (plan : Plan) (soun
       let s = each_place (PouIsSound pous) pous place q known'.1 sound.pous in
       ap (all_listed bound) (within_block project links types plan sound place known')
       ∙ listed_along pous bound (declarations_of q) (shown_variables project links types plan sound q) (along_lists project links types plan sound q s)
-          (λ d b there in_out is_b. subst (λ n. list_any (λ (i : InOutPin). bytes_eq (in_lower_case i.name) (in_lower_case n)) bound ≡ true) (pin_name d b is_b)
-              (has b (contains_map fixed (pins_where list.InOut (slice_get pous place)) b (subst (λ (o : Option Pou). Contains (pins_where list.InOut o) b) (sym known'.1) (block_has list.InOut (declarations_of q) d b there in_out is_b)))))
+      (λ d b there in_out is_b. subst (λ n. list_any (λ (i : InOutPin). bytes_eq (in_lower_case i.name) (in_lower_case n)) bound ≡ true) (pin_name d b is_b)
+      (has b (contains_map fixed (pins_where list.InOut (slice_get pous place)) b (subst (λ (o : Option Pou). Contains (pins_where list.InOut o) b) (sym known'.1) (block_has list.InOut (declarations_of q) d b there in_out is_b)))))
 
   -- ---- names
 
@@ -378,14 +372,14 @@ module _ (project : Project) (links : Links) (types : Types) (plan : Plan) (soun
   names_apart =
       let key : Wired → List ℕ = λ w. in_lower_case w.0.formal in
       let left : map (λ (i : InputPin). in_lower_case i.name) (map (input_pin pous p c inputs) taken) ≡ map key taken =
-        map_same (λ (i : InputPin). in_lower_case i.name) (input_pin pous p c inputs) key taken (each_weaker _ (λ (w : Wired). in_lower_case (input_pin pous p c inputs w).name ≡ key w) taken (λ w h. input_key w (input_is w h.0.there h.1)) each_taken) in
+      map_same (λ (i : InputPin). in_lower_case i.name) (input_pin pous p c inputs) key taken (each_weaker _ (λ (w : Wired). in_lower_case (input_pin pous p c inputs w).name ≡ key w) taken (λ w h. input_key w (input_is w h.0.there h.1)) each_taken) in
       let right : map (λ (i : InOutPin). in_lower_case i.name) bound ≡ map key InOuts =
-        map_same (λ (i : InOutPin). in_lower_case i.name) (in_out_pin pous p c) key InOuts (each_weaker Bound (λ (w : Wired). in_lower_case (in_out_pin pous p c w).name ≡ key w) InOuts (λ w s. in_out_key w (in_out_is w.0 s.there)) owned.in_outs_stand) in
+      map_same (λ (i : InOutPin). in_lower_case i.name) (in_out_pin pous p c) key InOuts (each_weaker Bound (λ (w : Wired). in_lower_case (in_out_pin pous p c w).name ≡ key w) InOuts (λ w s. in_out_key w (in_out_is w.0 s.there)) owned.in_outs_stand) in
       ap (λ l. are_distinct (l ++ map (λ (i : InOutPin). in_lower_case i.name) bound)) left ∙ ap (λ l. are_distinct (map key taken ++ l)) right
       ∙ distinct_join (map key taken) (map key InOuts) (taken_distinct inputs st.pins formals.inputs_apart) (bound_distinct in_outs (drop (length inputs) st.pins) formals.in_outs_apart)
-          (each_map (λ (n : List ℕ). IsNew n (map key InOuts)) key taken (each_weaker _ (λ (w : Wired). IsNew (key w) (map key InOuts)) taken
-              (λ w h. none_each (bytes_eq (key w)) (map key InOuts) (each_map (λ (n : List ℕ). bytes_eq (key w) n ≡ false) key InOuts (each_weaker Bound (λ (x : Wired). bytes_eq (key w) (key x) ≡ false) InOuts
-                  (λ x s. apart w x (input_is w h.0.there h.1) (in_out_is x.0 s.there)) owned.in_outs_stand))) each_taken))
+      (each_map (λ (n : List ℕ). IsNew n (map key InOuts)) key taken (each_weaker _ (λ (w : Wired). IsNew (key w) (map key InOuts)) taken
+      (λ w h. none_each (bytes_eq (key w)) (map key InOuts) (each_map (λ (n : List ℕ). bytes_eq (key w) n ≡ false) key InOuts (each_weaker Bound (λ (x : Wired). bytes_eq (key w) (key x) ≡ false) InOuts
+      (λ x s. apart w x (input_is w h.0.there h.1) (in_out_is x.0 s.there)) owned.in_outs_stand))) each_taken))
 
   -- ---- calls
 
@@ -393,7 +387,7 @@ module _ (project : Project) (links : Links) (types : Types) (plan : Plan) (soun
   linked w there =
       let ins = map (input_pin pous p c inputs) taken in
       Contains-append_right (enable_links (enable_of pous p Inputs outputs)) (map (λ (i : InputPin). i.link) ins) (wired_link pous p w)
-          (contains_map (λ (i : InputPin). i.link) ins (input_pin pous p c inputs w) (contains_map (input_pin pous p c inputs) taken w there))
+      (contains_map (λ (i : InputPin). i.link) ins (input_pin pous p c inputs w) (contains_map (input_pin pous p c inputs) taken w there))
 
   each_output : Each (λ (o : PinOut). Contains outputs o × (not (is_eno o) ≡ true)) (beside outputs)
   each_output = each_filter (Contains outputs) (λ (o : PinOut). not (is_eno o)) outputs (each_from (Contains outputs) outputs (λ o h. h))
@@ -417,7 +411,7 @@ module _ (project : Project) (links : Links) (types : Types) (plan : Plan) (soun
   enables : EnableFits at (enable_of pous p Inputs outputs)
   enables = enable_fits pous p tys marks dia networks k keeps given D v e st before type_name instance inputs in_outs outputs is c called
       (λ link there. subst (λ (n : diagram.ElementKind). Contains (links_of n) link) (sym of_block)
-          (Contains-append_left (enable_links (enable_of pous p Inputs outputs)) (map (λ (i : InputPin). i.link) (map (input_pin pous p c inputs) taken)) link there))
+      (Contains-append_left (enable_links (enable_of pous p Inputs outputs)) (map (λ (i : InputPin). i.link) (map (input_pin pous p c inputs) taken)) link there))
 
   -- a call suits its POU
   pub call_kind_fits : KindFits at (kind_of pous p st.pins the_kind)

@@ -1,13 +1,11 @@
 -- What is wired to EN suits it, and what an input of a block that has its type reads.
-use Rattle.std.proofs.Common.{◌≡◌, ◌≢◌, ℕ, zero, suc, ◌+◌, ◌<◌, ◌≤◌, Bool, true, false, cond, not, ◌&&◌, ◌||◌, List, [], ◌∷◌, ◌++◌, map, length, drop, Option, Some, None, slice_get, refl, sym, ap, ◌∙◌, subst, arith}
-use Rattle.std.specs.Prelude.{option_map, option_and_then, codes, nat_eq}
+use Rattle.std.proofs.Common.{◌≡◌, ℕ, zero, suc, ◌≤◌, Bool, true, cond, not, List, [], ◌∷◌, length, Option, Some, None, refl, sym, ap, ◌∙◌, subst, arith}
+use Rattle.std.specs.Prelude.{option_map, nat_eq}
 use Rattle.std.specs.List.{Contains, find, zip}
 use Rattle.std.proofs.lemmas.Bool.{and_parts}
-use Rattle.std.proofs.lemmas.List.Elements.{Contains-append_left}
 use Rattle.plcx_types.specs.declared.ty.Ty.{Ty}
 use Rattle.plcx_types.specs.declared.ty.Ty.TheVariants as ty
 use Rattle.plcx_types.specs.Lists.{Each}
-use Rattle.plcx_funcs.specs.declared.pins.Class.{Class}
 use Rattle.plcx_funcs.specs.declared.pins.Class.TheVariants as class
 use Rattle.plcx_meaning.specs.Diagram as diagram
 use Rattle.plcx_meaning.specs.Diagram.{Port, Link, Enable, links_of, enable_links}
@@ -15,27 +13,23 @@ use Rattle.plcx_meaning.specs.Fits.{Standing, LinkFits, EnableFits}
 use Rattle.plcx_meaning.proofs.Lists.{contains_first, each_at}
 use Rattle.plcx_model.specs.declared.body.PinIn.{PinIn}
 use Rattle.plcx_model.specs.declared.body.PinOut.{PinOut}
-use Rattle.plcx_model.specs.declared.body.Kind.{Kind}
 use Rattle.plcx_model.specs.declared.body.Kind.TheVariants as kind
 use Rattle.plcx_model.specs.declared.body.BodyElement.{BodyElement}
 use Rattle.plcx_model.specs.declared.project.Pou.{Pou}
 use Rattle.plcx_model.specs.Sound.{PinsAreFew}
 use Rattle.plcx_rules.specs.declared.callee.Callee.{Callee}
 use Rattle.plcx_rules.specs.declared.form.Pin.{Pin}
-use Rattle.plcx_rules.specs.Texts.{is_empty}
-use Rattle.plcx_rules.specs.Callees.{Formal, enable, inputs_of, callee_named, formal_named, input_count, input_formal, is_enable, is_connected}
+use Rattle.plcx_rules.specs.Callees.{enable, inputs_of, callee_named, formal_named, input_count, is_enable, is_connected}
 use Rattle.plcx_rules.specs.Forms.{class_of, input_class_of}
-use Rattle.plcx_rules.specs.Types.{Sheet, AtPin, HasType}
+use Rattle.plcx_rules.specs.Types.{AtPin, HasType}
 use Rattle.plcx_view.specs.Blocks.{Wired, wired_link, enables, enable_of}
 use Rattle.plcx_view.specs.Kinds.{kind_of}
-use Rattle.plcx_view.specs.Links.{link_of}
-use Rattle.plcx_view.specs.Pins as view
 use Rattle.plcx_fits.proofs.Agreed.{Keeps, pin_fixed}
 use Rattle.plcx_fits.proofs.Given.{AreGiven, standing, IsBefore, reads, link_fits, link_has}
 use Rattle.plcx_fits.proofs.Lists.{each_place}
-use Rattle.plcx_fits.proofs.Places.{sheet, Stands, ElementStands}
+use Rattle.plcx_fits.proofs.Places.{sheet, ElementStands}
 use Rattle.plcx_fits.proofs.Ports.{found_one}
-use Rattle.plcx_fits.proofs.Wired.{WiredStands, input_form, PinsOf, pins_of_block}
+use Rattle.plcx_fits.proofs.Wired.{WiredStands, input_form, pins_of_block}
 
 -- a connected pin has a connection
 pub connected : (i : PinIn) → is_connected i ≡ true → 1 ≤ length i.input
@@ -46,8 +40,8 @@ connected i h = some (length i.input) h
     some (suc n) k = omega arith
 
 module _ (pous : List Pou) (p : Pou) (tys : List Ty) (marks : List Bool) (dia : diagram.Project) (networks : List (List ℕ)) (k : ℕ) (keeps : Keeps pous p tys marks k) (given : AreGiven pous p tys marks) (D : List (ℕ × Port))
-         (u : ℕ) (e : BodyElement) (st : ElementStands pous p tys marks u e) (before : IsBefore pous p tys marks dia networks u D) (type_name : List ℕ) (instance : Option (List ℕ)) (inputs in_outs : List PinIn) (outputs : List PinOut)
-         (is : e.kind ≡ kind.Block type_name instance inputs in_outs outputs) (c : Callee) (called : callee_named pous type_name ≡ Some c) where
+    (u : ℕ) (e : BodyElement) (st : ElementStands pous p tys marks u e) (before : IsBefore pous p tys marks dia networks u D) (type_name : List ℕ) (instance : Option (List ℕ)) (inputs in_outs : List PinIn) (outputs : List PinOut)
+    (is : e.kind ≡ kind.Block type_name instance inputs in_outs outputs) (c : Callee) (called : callee_named pous type_name ≡ Some c) where
   abbrev pub at : Standing
   at = standing pous p tys marks dia networks D
 
@@ -71,7 +65,7 @@ module _ (pous : List Pou) (p : Pou) (tys : List Ty) (marks : List Bool) (dia : 
       let count = s.count in
       let contained = subst (λ n. Contains (links_of (kind_of pous p st.pins n)) (wired_link pous p w)) (sym is) there in
       link_fits pous p tys marks dia networks k keeps given D u e st.element before (form w.0) w.1 s.stand has (reads pous p tys marks dia networks u e st w.0.mods.negated w.1 contained) w.0.mods.negated (λ h. h)
-          (omega (arith, one, count)) (omega (arith, few, count))
+      (omega (arith, one, count)) (omega (arith, few, count))
 
   -- EN is BOOL
   enable_class : (i : PinIn) → is_enable i ≡ true → input_class_of pous (Some c) inputs i ≡ Some (class.Fixed ty.Bool)
@@ -92,8 +86,7 @@ module _ (pous : List Pou) (p : Pou) (tys : List Ty) (marks : List Bool) (dia : 
           let has = subst (λ t. HasType (sheet pous p tys marks) (AtPin one.0.stand.number) t) (sym typed.0) typed.1 in
           let own : wired_link pous p w ≡ link = cc in
           let there : Contains (enable_links (enable_of pous p (zip inputs st.pins) outputs)) (wired_link pous p w) =
-            subst (λ (r : Option Wired). Contains (elim (option_map (wired_link pous p) r) [ Some l ↦ l ∷ [] | None ↦ [] ]) (wired_link pous p w)) (sym found) (contains_first (wired_link pous p w) []) in
-          (
+          subst (λ (r : Option Wired). Contains (elim (option_map (wired_link pous p) r) [ Some l ↦ l ∷ [] | None ↦ [] ]) (wired_link pous p w)) (sym found) (contains_first (wired_link pous p w) []) in (
             subst (LinkFits at) own (input_fits w one.0 parts.1 has (among (wired_link pous p w) there)),
             ap (λ (l : Link). l.ty) (sym own) ∙ link_has pous p w.0.mods.negated w.1 ∙ typed.0,
           )

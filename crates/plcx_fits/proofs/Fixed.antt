@@ -1,19 +1,18 @@
 -- The order of a network: what an element reads is fixed before it, and nothing is fixed twice.
-use Rattle.std.proofs.Common.{◌≡◌, ◌↔◌, ℕ, zero, suc, ◌+◌, ◌<◌, ◌⊎◌, inl, inr, Bool, true, false, List, [], ◌∷◌, ◌++◌, map, length, get_or, Option, Some, None, slice_get, refl, sym, ap, ◌∙◌, subst, arith}
+use Rattle.std.proofs.Common.{◌≡◌, ℕ, ◌⊎◌, inl, inr, Bool, true, false, List, [], ◌∷◌, ◌++◌, Option, Some, slice_get, refl, sym, ap, ◌∙◌, subst}
 use Rattle.std.specs.Prelude.{not, nat_eq}
-use Rattle.std.specs.List.{list_all, Contains, cons_option, filter_map}
+use Rattle.std.specs.List.{Contains, cons_option}
 use Rattle.std.proofs.lemmas.Bool.{and_from, eqb-true}
 use Rattle.std.proofs.lemmas.List.Elements.{Contains-append_left, Contains-append_right}
 use Rattle.plcx_types.specs.Lists.{Each}
 use Rattle.plcx_meaning.specs.Diagram.{Port, ports, DiagramElement}
 use Rattle.plcx_meaning.specs.Diagram as diagram
-use Rattle.plcx_meaning.specs.Fits.{Standing, KindFits, fixed_by, is_fresh, ElementsFit}
+use Rattle.plcx_meaning.specs.Fits.{KindFits, fixed_by, is_fresh, ElementsFit}
 use Rattle.plcx_meaning.proofs.Lists.{each_weaker, each_append, each_map, contains_map, each_from}
-use Rattle.plcx_model.specs.Feedback.{IsFeedback}
-use Rattle.plcx_model.specs.Graph.{Graph, TakesPart}
+use Rattle.plcx_model.specs.Graph.{Graph}
 use Rattle.plcx_model.specs.Networks.{Listed, IsNetwork}
 use Rattle.plcx_model.specs.Orders.{IsReady, IsOrderFrom, IsOrder, AreOrders}
-use Rattle.plcx_model.specs.Paths.{IsPath, Reaches, IsWire, IsLink}
+use Rattle.plcx_model.specs.Paths.{IsPath, Reaches, IsLink}
 use Rattle.plcx_view.specs.Diagrams.{network_of}
 use Rattle.plcx_fits.proofs.Lists.{contains_at}
 

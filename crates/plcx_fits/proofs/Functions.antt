@@ -1,10 +1,9 @@
 -- Functions suit their signature.
-use Rattle.std.proofs.Common.{◌≡◌, ◌≢◌, ℕ, zero, suc, ◌+◌, ◌<◌, ◌≤◌, ◌⊎◌, inl, inr, Bool, true, false, cond, not, ◌&&◌, ◌||◌, List, [], ◌∷◌, ◌++◌, map, length, drop, Option, Some, None, slice_get, get_or, refl, sym, ap, ap₂, ◌∙◌, subst, arith}
-use Rattle.std.specs.Prelude.{option_map, option_and_then, codes, nat_eq, is_some, is_none, decimal}
+use Rattle.std.proofs.Common.{◌≡◌, ◌≢◌, ℕ, zero, suc, ◌+◌, ◌<◌, ◌≤◌, ◌⊎◌, inl, inr, Bool, true, false, cond, not, ◌&&◌, ◌||◌, List, [], ◌∷◌, ◌++◌, map, length, drop, Option, Some, None, slice_get, get_or, refl, sym, ap, ◌∙◌, subst, arith}
+use Rattle.std.specs.Prelude.{option_map, codes, is_some, is_none}
 use Rattle.std.specs.List.{Contains, find, filter, filter_map, cons_option, list_any, zip, range_with_len}
 use Rattle.std.specs.Option.{unwrap_or}
-use Rattle.std.specs.Str.{bytes_eq}
-use Rattle.std.proofs.lemmas.Bool.{and_parts, and_from, or_parts, cases_eq, cases_Bool}
+use Rattle.std.proofs.lemmas.Bool.{and_from, or_parts, cases_eq, cases_Bool}
 use Rattle.std.proofs.lemmas.List.{length-map}
 use Rattle.std.proofs.lemmas.List.Elements.{Contains-append_left, Contains-append_right}
 use Rattle.plcx_types.specs.declared.literal.Literal.TheVariants as literal
@@ -300,7 +299,7 @@ conversion_low (func.Conv from to) converts = omega arith
 conversion_low _ converts = absurd converts
 
 module _ (pous : List Pou) (p : Pou) (tys : List Ty) (marks : List Bool) (k : ℕ) (keeps : Keeps pous p tys marks k) (u : ℕ) (e : BodyElement) (st : ElementStands pous p tys marks u e) (type_name : List ℕ) (instance : Option (List ℕ))
-         (inputs in_outs : List PinIn) (outputs : List PinOut) (is : e.kind ≡ kind.Block type_name instance inputs in_outs outputs) (f : Func) (called : callee_named pous type_name ≡ Some (callee.Function f)) where
+    (inputs in_outs : List PinIn) (outputs : List PinOut) (is : e.kind ≡ kind.Block type_name instance inputs in_outs outputs) (f : Func) (called : callee_named pous type_name ≡ Some (callee.Function f)) where
   abbrev sh : Sheet
   sh = sheet pous p tys marks
 
@@ -456,7 +455,7 @@ module _ (pous : List Pou) (p : Pou) (tys : List Ty) (marks : List Bool) (k : �
   group_has simple =
       let tells = tells_group f simple in
       let shape : (form_of pous p e.kind).grouping ≡ grouping.Function (group_types f) =
-        ap (λ x. (form_of pous p x).grouping) is ∙ ap grouping_of called ∙ groups_at (group_types f) tells.2 in
+      ap (λ x. (form_of pous p x).grouping) is ∙ ap grouping_of called ∙ groups_at (group_types f) tells.2 in
       let g = keeps.shared u e st.element (λ apart. absurd (let h : grouping.Apart ≡ grouping.Function (group_types f) = sym apart ∙ shape in cc)) in
       record { ty = g.0; typed = g.1; grouping = ap (λ (x : Form). x.grouping) (form_is pous p tys marks u e st.element) ∙ shape }
 
@@ -552,8 +551,8 @@ module _ (pous : List Pou) (p : Pou) (tys : List Ty) (marks : List Bool) (k : �
             record {
               has = own;
               suit = ap (λ x. suits x T (found_input i low).w.1.ty) is_lone ∙ (elim whole [
-              | inl h ↦ h
-              | inr h ↦ absurd (keeps.agrees u e st.element (LoneIsBarred (record { count = (found_input i low).one.stand.below; owner = ap (λ (x : Pin). x.element) (found_input i low).one.stand.is ∙ (found_input i low).one.stand.owner }) lone own h))
+                | inl h ↦ h
+                | inr h ↦ absurd (keeps.agrees u e st.element (LoneIsBarred (record { count = (found_input i low).one.stand.below; owner = ap (λ (x : Pin). x.element) (found_input i low).one.stand.is ∙ (found_input i low).one.stand.owner }) lone own h))
               ]);
             }
 
@@ -570,8 +569,8 @@ module _ (pous : List Pou) (p : Pou) (tys : List Ty) (marks : List Bool) (k : �
             let outputs' = each_get_at (IsOutput p.body.elements) (sources_in p.body.elements) (found_input i low).one.stand.number keeps.outputs in
             let output = each_at (IsOutput p.body.elements) (sources_at sh (found_input i low).one.stand.number) o outputs' there in
             elim (source_gives o output) [
-            | inl typed ↦ typed_by typed.0 (LoneOfSource (found_input i low).one.stand.below lone there typed.1)
-            | inr untyped ↦ typed_by ty.Dint (LoneOfLiteral (found_input i low).one.stand.below lone there untyped)
+              | inl typed ↦ typed_by typed.0 (LoneOfSource (found_input i low).one.stand.below lone there typed.1)
+              | inr untyped ↦ typed_by ty.Dint (LoneOfLiteral (found_input i low).one.stand.below lone there untyped)
             ]
 
     group_typed_input : (i : ℕ) (low : i < n) → input_class f i ≡ class.Group → Typed i low
@@ -617,8 +616,8 @@ module _ (pous : List Pou) (p : Pou) (tys : List Ty) (marks : List Bool) (k : �
         let g = group_has simple in
         let same = group_type simple in
         elim (cases_Bool (is_allowed (group_types f) T)) [
-        | inl h ↦ h
-        | inr h ↦ absurd (keeps.agrees u e st.element (GroupIsBarred g.grouping (subst (HasType sh (AtGroup u)) (sym same) g.typed) h))
+          | inl h ↦ h
+          | inr h ↦ absurd (keeps.agrees u e st.element (GroupIsBarred g.grouping (subst (HasType sh (AtGroup u)) (sym same) g.typed) h))
         ]
 
     real : is_function f ≡ true
@@ -630,7 +629,7 @@ module _ (pous : List Pou) (p : Pou) (tys : List Ty) (marks : List Bool) (k : �
     applies : can_apply f T (types_of L) ≡ true
     applies =
         and_from (can_have f (length (types_of L))) (takes f T && all_suit f T 0 (types_of L)) (ap (can_have f) types_count ∙ count_fine)
-            (and_from (takes f T) (all_suit f T 0 (types_of L)) (takes_by f T real allowed_there) (ap (λ ls. all_suit f T 0 (types_of ls)) L_is ∙ all_suit_from 0 n (omega arith)))
+        (and_from (takes f T) (all_suit f T 0 (types_of L)) (takes_by f T real allowed_there) (ap (λ ls. all_suit f T 0 (types_of ls)) L_is ∙ all_suit_from 0 n (omega arith)))
 
     group_some : group_of f (types_of L) ≡ Some T
     group_some = let h = group_is (group_index f) index_low refl in h ∙ ap Some (sym (told _ h))
@@ -724,4 +723,4 @@ module _ (pous : List Pou) (p : Pou) (tys : List Ty) (marks : List Bool) (k : �
       pub function_kind_fits : KindFits place (kind_of pous p st.pins (kind.Block type_name instance inputs in_outs outputs))
       function_kind_fits =
           subst (λ (o : Option Callee). KindFits place (block_by pous p o instance inputs (zip inputs st.pins) (zip in_outs (drop (length inputs) st.pins)) outputs)) (sym called)
-              (function_fits, enables_fit, (λ negated. out_bool (negated_out outputs (λ i o at. (i, at)) negated)))
+          (function_fits, enables_fit, (λ negated. out_bool (negated_out outputs (λ i o at. (i, at)) negated)))

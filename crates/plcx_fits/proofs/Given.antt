@@ -1,6 +1,6 @@
 -- What an input pin reads suits it: a rail, a literal, an output that is fixed before, or one that feeds back.
-use Rattle.std.proofs.Common.{◌≡◌, ◌≢◌, ℕ, zero, suc, ◌+◌, ◌<◌, ◌≤◌, ◌⊎◌, inl, inr, Bool, true, false, cond, not, ◌&&◌, ◌||◌, List, [], ◌∷◌, map, length, get_or, Option, Some, None, slice_get, refl, sym, ap, ◌∙◌, subst, arith}
-use Rattle.std.specs.Prelude.{ℤ, nat_eq}
+use Rattle.std.proofs.Common.{◌≡◌, ℕ, zero, suc, ◌≤◌, ◌⊎◌, inl, inr, Bool, true, false, cond, ◌||◌, List, [], ◌∷◌, map, length, get_or, Option, Some, None, slice_get, refl, sym, ap, ◌∙◌, subst, arith}
+use Rattle.std.specs.Prelude.{nat_eq}
 use Rattle.std.specs.List.{Contains, filter, list_any}
 use Rattle.std.specs.Str.{bytes_eq}
 use Rattle.std.proofs.lemmas.Bool.{and_from, eq-eqb}
@@ -13,7 +13,7 @@ use Rattle.plcx_types.specs.Lists.{Each}
 use Rattle.plcx_types.specs.Range.{InRange}
 use Rattle.plcx_meaning.specs.Diagram as diagram
 use Rattle.plcx_meaning.specs.Diagram.{Rail, Wire, Back, Link, Port, port, ports, links_of, reads_back, link_reads_back, is_fed, DiagramElement, ElementKind}
-use Rattle.plcx_meaning.specs.Fits.{Standing, SourceFits, LinkFits, FeedsBack}
+use Rattle.plcx_meaning.specs.Fits.{Standing, SourceFits, LinkFits}
 use Rattle.plcx_meaning.proofs.Lists.{contains_cases, contains_first, contains_later, contains_none, contains_map, each_at, each_from, each_map}
 use Rattle.plcx_meaning.proofs.Names.{bytes_self}
 use Rattle.plcx_model.specs.declared.body.Mods.{Mods}
@@ -24,15 +24,13 @@ use Rattle.plcx_model.specs.declared.project.Pou.{Pou}
 use Rattle.plcx_model.specs.declared.source.Source.{Source}
 use Rattle.plcx_model.specs.Numbering.{kind_takes_part}
 use Rattle.plcx_rules.specs.declared.form.Form.{Form}
-use Rattle.plcx_rules.specs.declared.form.Gives.{Gives}
-use Rattle.plcx_rules.specs.declared.form.Gives.TheVariants.{Typed, Untyped}
 use Rattle.plcx_rules.specs.declared.form.Pin.{Pin}
 use Rattle.plcx_rules.specs.declared.form.Out.{Out}
 use Rattle.plcx_rules.specs.Forms.{gives_held, text_gives, form_of}
 use Rattle.plcx_rules.specs.Sources.{sources_in}
 use Rattle.plcx_rules.specs.Helds.{Held, OfLiteral, OfVariable, OfInstance, OfOutput, text_held}
 use Rattle.plcx_rules.specs.Laws.{HasOutput, IsOutput}
-use Rattle.plcx_rules.specs.Types.{form_at, output_among, output_at, gives_at, is_untyped, AtPin, AtOutput, HasType, DeclaredOutput}
+use Rattle.plcx_rules.specs.Types.{form_at, output_among, output_at, is_untyped, AtPin, AtOutput, HasType, DeclaredOutput}
 use Rattle.plcx_rules.specs.TypingRules.{OutputIsNoBool, LiteralIsNoBool}
 use Rattle.plcx_view.specs.Diagrams.{element_of, without_networks, with_fed, elements_of, with_networks}
 use Rattle.plcx_view.specs.Kinds.{kind_of}

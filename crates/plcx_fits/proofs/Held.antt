@@ -1,8 +1,7 @@
 -- What a text holds comes from a literal, from a declared name, or from an output of an instance.
-use Rattle.std.proofs.Common.{◌≡◌, ℕ, ℤ, pos, ◌+◌, List, Option, Some, None, drop, take, refl, ap, ◌∙◌, subst}
+use Rattle.std.proofs.Common.{◌≡◌, ℕ, ℤ, pos, ◌+◌, List, Option, Some, None, drop, take, refl, subst}
 use Rattle.std.specs.Prelude.{nat_eq, option_map, option_and_then}
 use Rattle.std.specs.List.{position_from}
-use Rattle.plcx_types.specs.declared.ty.Ty.{Ty}
 use Rattle.plcx_types.specs.declared.literal.Literal.{Literal}
 use Rattle.plcx_types.specs.declared.literal.Literal.TheVariants.{Typed, Whole}
 use Rattle.plcx_types.specs.Literal.{IsForm, IsTruth}

@@ -1,20 +1,13 @@
 -- What a block calls is an instance of it, and what its formal parameters lead to stands within the instance.
-use Rattle.std.proofs.Common.{◌≡◌, ◌≢◌, ℕ, Bool, true, false, cond, not, List, [], ◌∷◌, map, get_or, Option, Some, None, slice_get, refl, sym, ap, ◌∙◌, subst}
-use Rattle.std.specs.Prelude.{is_some, is_none, nat_eq}
+use Rattle.std.proofs.Common.{◌≡◌, ℕ, Bool, true, false, not, List, [], ◌∷◌, map, get_or, Option, Some, None, refl, sym, ap, ◌∙◌, subst}
 use Rattle.std.specs.List.{find}
 use Rattle.std.proofs.lemmas.Bool.{eqb-true}
-use Rattle.plcx_types.specs.declared.ty.Ty.{Ty}
 use Rattle.plcx_types.specs.Lists.{Each}
 use Rattle.plcx_types.specs.Name.{in_lower_case}
-use Rattle.plcx_funcs.specs.declared.pins.Class.TheVariants as class
 use Rattle.plcx_std.specs.declared.kind.StdKind.{StdKind}
 use Rattle.plcx_std.specs.declared.kind.StdKind.TheVariants as kind
-use Rattle.plcx_meaning.specs.Diagram as diagram
-use Rattle.plcx_meaning.specs.Evaluate.{world_of}
-use Rattle.plcx_meaning.specs.Fits.{IsInstance, HasType}
 use Rattle.plcx_meaning.specs.Layout as layout
 use Rattle.plcx_meaning.specs.Tree as tree
-use Rattle.plcx_meaning.proofs.Lists.{each_map, each_weaker}
 use Rattle.plcx_meaning.proofs.Names.{bytes_same}
 use Rattle.plcx_model.specs.declared.plan.Links.{Links}
 use Rattle.plcx_model.specs.declared.plan.Types.{Types}
@@ -24,7 +17,7 @@ use Rattle.plcx_model.specs.declared.project.VarTy.{VarTy}
 use Rattle.plcx_model.specs.declared.project.VarTy.TheVariants.{Plain, Std, Block}
 use Rattle.plcx_model.specs.declared.project.Pou.{Pou}
 use Rattle.plcx_model.specs.declared.project.Project.{Project}
-use Rattle.plcx_model.specs.Sound.{IsKnown, PouIsSound, Sound}
+use Rattle.plcx_model.specs.Sound.{IsKnown, Sound}
 use Rattle.plcx_rules.specs.declared.callee.Callee.{Callee}
 use Rattle.plcx_rules.specs.declared.callee.Callee.TheVariants as callee
 use Rattle.plcx_rules.specs.Texts.{same_name}
@@ -32,9 +25,8 @@ use Rattle.plcx_rules.specs.Declarations.{Declaration, declaration_named, kind_p
 use Rattle.plcx_rules.specs.Callees.{BlockPin, Formal, fixed, inputs_of, in_outs_of, outputs_of, outputs_of_type, is_function, is_instance_of}
 use Rattle.plcx_rules.specs.LinkRules.{leads_to, instance_suits, instance_fails}
 use Rattle.plcx_view.specs.Blocks.{variable_name, instance_of}
-use Rattle.plcx_fits.proofs.Named.{Found, IsPinOf, shown_variables, declared_there, within, IsBlockType, instance_there, pins_there, outputs_there, inputs_there}
+use Rattle.plcx_fits.proofs.Named.{IsPinOf, within, IsBlockType, pins_there, outputs_there, inputs_there}
 use Rattle.plcx_fits.proofs.Ports.{found_one}
-use Rattle.plcx_fits.proofs.Spelled.{whole}
 
 -- the standard block at a place
 abbrev kind_at : ℕ → StdKind

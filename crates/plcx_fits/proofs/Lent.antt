@@ -1,7 +1,7 @@
 -- Connections of in-outs, and names of the formal parameters of a call.
-use Rattle.std.proofs.Common.{◌≡◌, ◌≢◌, ℕ, zero, suc, ◌+◌, ◌<◌, ◌≤◌, ◌⊎◌, inl, inr, Bool, true, false, cond, not, ◌&&◌, ◌||◌, List, [], ◌∷◌, ◌++◌, map, length, Option, Some, None, slice_get, refl, sym, ap, ◌∙◌, subst, arith}
+use Rattle.std.proofs.Common.{◌≡◌, ℕ, ◌≤◌, ◌⊎◌, inl, inr, Bool, true, false, cond, not, ◌&&◌, List, [], ◌∷◌, map, length, Option, Some, None, slice_get, refl, sym, ap, ◌∙◌, subst, arith}
 use Rattle.std.specs.Prelude.{is_none, nat_eq, option_and_then, option_map}
-use Rattle.std.specs.List.{Contains, filter, filter_map, cons_option, list_any, list_all, zip}
+use Rattle.std.specs.List.{Contains, filter, filter_map, cons_option, list_any, zip}
 use Rattle.std.specs.Str.{bytes_eq}
 use Rattle.std.proofs.lemmas.Bool.{or_parts, or_from, and_from, eqb-true}
 use Rattle.std.proofs.lemmas.Option.{slice_get-get_or}
@@ -18,19 +18,18 @@ use Rattle.plcx_meaning.specs.Diagram.{InOutPin}
 use Rattle.plcx_meaning.specs.Fits.{all_listed}
 use Rattle.plcx_meaning.specs.Layout as layout
 use Rattle.plcx_meaning.specs.Tree as tree
-use Rattle.plcx_meaning.proofs.Lists.{IsNew, contains_cases, contains_first, contains_later, contains_none, each_from, distinct_from}
+use Rattle.plcx_meaning.proofs.Lists.{IsNew, contains_cases, contains_first, contains_later, contains_none, distinct_from}
 use Rattle.plcx_model.specs.declared.body.Connection.{Connection}
 use Rattle.plcx_model.specs.declared.body.PinIn.{PinIn}
 use Rattle.plcx_model.specs.declared.body.BodyElement.{BodyElement}
 use Rattle.plcx_model.specs.declared.project.ListClass.{ListClass}
 use Rattle.plcx_model.specs.declared.project.ListClass.TheVariants as class
-use Rattle.plcx_model.specs.declared.project.VarTy.TheVariants.{Plain}
 use Rattle.plcx_model.specs.declared.project.Pou.{Pou}
 use Rattle.plcx_model.specs.declared.source.Source.{Source}
 use Rattle.plcx_rules.specs.Texts.{same_name}
 use Rattle.plcx_rules.specs.Declarations.{Declaration, plain_type, same_class}
-use Rattle.plcx_rules.specs.Callees.{BlockPin, is_enable, is_connected, is_absent, present, pin_of}
-use Rattle.plcx_rules.specs.LinkRules.{has_double, names_of, has_one}
+use Rattle.plcx_rules.specs.Callees.{BlockPin, is_enable, is_connected, present, pin_of}
+use Rattle.plcx_rules.specs.LinkRules.{has_double, names_of}
 use Rattle.plcx_rules.specs.Sources.{place_of_id, producer, source, source_at, source_of, sources_at, output_place}
 use Rattle.plcx_view.specs.Blocks.{Wired, is_taken, among}
 use Rattle.plcx_view.specs.Declared.{class_of}

@@ -11,16 +11,14 @@ use Rattle.plcx_types.specs.TypeName.{type_named}
 use Rattle.plcx_std.specs.declared.kind.StdKind.{StdKind}
 use Rattle.plcx_std.specs.declared.kind.StdKind.TheVariants as kind
 use Rattle.plcx_std.specs.declared.pin.Role.TheVariants as role
-use Rattle.plcx_std.specs.Kind.{kind_name}
 use Rattle.plcx_meaning.specs.Diagram as diagram
 use Rattle.plcx_meaning.specs.Diagram.{Own, Output}
 use Rattle.plcx_meaning.specs.Evaluate.{world_of}
-use Rattle.plcx_meaning.specs.Fits.{HasType, IsVariable, CanBeWritten, IsInstance, Standing, OperandFits}
+use Rattle.plcx_meaning.specs.Fits.{HasType, IsVariable, CanBeWritten, IsInstance, OperandFits}
 use Rattle.plcx_meaning.specs.Layout.{variable_named, composed}
 use Rattle.plcx_meaning.specs.Layout as layout
 use Rattle.plcx_meaning.specs.Standard.{pin_blocks}
 use Rattle.plcx_meaning.specs.Tree as tree
-use Rattle.plcx_meaning.proofs.Lists.{each_weaker}
 use Rattle.plcx_meaning.proofs.LookupsOwn.{type_of_name}
 use Rattle.plcx_meaning.proofs.Names.{bytes_same, bytes_swapped}
 use Rattle.plcx_meaning.proofs.ReadyUnits.{named_each}
@@ -39,7 +37,7 @@ use Rattle.plcx_model.specs.declared.project.Project.{Project}
 use Rattle.plcx_model.specs.Sound.{IsKnown, MayHold, VariableIsSound, ListIsSound, PouIsSound, Sound}
 use Rattle.plcx_rules.specs.Texts.{same_name}
 use Rattle.plcx_rules.specs.Declarations.{Declaration, declared_in, declarations_of, is_of_name, declaration_named, plain_type, same_class, can_be_written}
-use Rattle.plcx_rules.specs.Callees.{BlockPin, standard_pins, pin_of, block_pins, pins_where, outputs_of_type, pin_named}
+use Rattle.plcx_rules.specs.Callees.{BlockPin, standard_pins, pin_of, pins_where, outputs_of_type, pin_named}
 use Rattle.plcx_rules.specs.Helds.{Held, OfLiteral, OfVariable, OfInstance, OfOutput}
 use Rattle.plcx_view.specs.Declared.{class_of, mark_by, mark_of, spelled_type, declaration_of, list_of, lists_of}
 use Rattle.plcx_view.specs.Operands.{operand_by}

@@ -1,9 +1,9 @@
 -- The networks of a checked project's diagram fit.
-use Rattle.std.proofs.Common.{◌≡◌, ◌≢◌, ◌↔◌, ℕ, zero, suc, ◌+◌, ◌<◌, ◌⊎◌, inl, inr, Bool, true, false, not, List, [], ◌∷◌, map, length, get_or, Option, Some, None, slice_get, refl, sym, ap, ◌∙◌, subst, arith}
+use Rattle.std.proofs.Common.{◌≡◌, ℕ, zero, suc, inr, Bool, true, false, not, List, [], ◌∷◌, map, get_or, Option, Some, None, slice_get, refl, sym, ap, ◌∙◌, subst}
 use Rattle.std.specs.Prelude.{is_none, nat_eq, option_map}
-use Rattle.std.specs.List.{Contains, list_any}
+use Rattle.std.specs.List.{list_any}
 use Rattle.std.proofs.lemmas.Bool.{and_parts, not-true, eq-eqb, both_ways}
-use Rattle.std.proofs.lemmas.Option.{slice_get-map, slice_get-get_or}
+use Rattle.std.proofs.lemmas.Option.{slice_get-map}
 use Rattle.plcx_types.specs.declared.ty.Ty.{Ty}
 use Rattle.plcx_types.specs.Lists.{Each}
 use Rattle.plcx_meaning.specs.Base.{all_differ}
@@ -11,7 +11,6 @@ use Rattle.plcx_meaning.specs.Diagram as diagram
 use Rattle.plcx_meaning.specs.Diagram.{Port, DiagramElement}
 use Rattle.plcx_meaning.specs.Fits.{KindFits, ElementsFit, ProjectFits}
 use Rattle.plcx_meaning.proofs.Lists.{each_map, none_passes}
-use Rattle.plcx_model.specs.declared.body.Kind.{Kind}
 use Rattle.plcx_model.specs.declared.body.Kind.TheVariants as kind
 use Rattle.plcx_model.specs.declared.body.BodyElement.{BodyElement}
 use Rattle.plcx_model.specs.declared.body.PinIn.{PinIn}
@@ -24,7 +23,7 @@ use Rattle.plcx_model.specs.declared.project.Pou.{Pou}
 use Rattle.plcx_model.specs.declared.project.Project.{Project}
 use Rattle.plcx_model.specs.declared.source.Source.{Source}
 use Rattle.plcx_model.specs.Feedback.{IsFeedback}
-use Rattle.plcx_model.specs.Graph.{Graph, TakesPart, from_at, to_at}
+use Rattle.plcx_model.specs.Graph.{Graph, TakesPart, to_at}
 use Rattle.plcx_model.specs.Networks.{Listed, IsNetwork}
 use Rattle.plcx_model.specs.Numbering.{kind_takes_part}
 use Rattle.plcx_model.specs.Orders.{IsReady}
@@ -42,13 +41,12 @@ use Rattle.plcx_rules.specs.Items.{Item, items_of}
 use Rattle.plcx_rules.specs.LinkRules.{breaks, has_no_callee}
 use Rattle.plcx_rules.specs.Sources.{sources_in, links_of}
 use Rattle.plcx_rules.specs.Typed.{AreTypes}
-use Rattle.plcx_rules.specs.TypingRules.{BreaksIn, BreaksTyping, type_rules, type_place, Disagrees, IsOutside}
+use Rattle.plcx_rules.specs.TypingRules.{BreaksIn, BreaksTyping, type_rules, type_place}
 use Rattle.plcx_rules.proofs.Counted.{are_outputs, are_counted}
 use Rattle.plcx_rules.proofs.Lists.{each_never}
 use Rattle.plcx_view.specs.Checked.{IsBodyPlan, graph_of_pou, IsChecked}
-use Rattle.plcx_view.specs.Diagrams.{element_of, with_fed, elements_of, network_of, pou_of, no_plan}
+use Rattle.plcx_view.specs.Diagrams.{element_of, with_fed, network_of, pou_of, no_plan}
 use Rattle.plcx_view.specs.Kinds.{kind_of}
-use Rattle.plcx_view.specs.Pins.{Feed}
 use Rattle.plcx_fits.proofs.Agreed.{Keeps, form_is}
 use Rattle.plcx_fits.proofs.Bodies.{ids_differ}
 use Rattle.plcx_fits.proofs.Calls.{call_kind_fits}
@@ -59,7 +57,7 @@ use Rattle.plcx_fits.proofs.Joined.{mapped_at, sources_at, plan_at, graph_at, pr
 use Rattle.plcx_fits.proofs.Judged.{link_verdict, typing_verdict, at_item, kept_at}
 use Rattle.plcx_fits.proofs.Lists.{each_place, contains_at}
 use Rattle.plcx_fits.proofs.Outputs.{GroupsAre, all_given}
-use Rattle.plcx_fits.proofs.Places.{bare, pins, sheet, wires, IsMarked, ElementStands, element_stands, pins_counted}
+use Rattle.plcx_fits.proofs.Places.{bare, pins, sheet, ElementStands, element_stands, pins_counted}
 use Rattle.plcx_fits.proofs.Spelled.{seen, whole}
 use Rattle.plcx_fits.proofs.Suited.{kind_fits}
 
@@ -131,8 +129,8 @@ module _ (project : Project) (links : Links) (types : Types) (plan : Plan) (c : 
   no_break : (r : TypeRule) → Never (BreaksTyping pous (links_of pous) r) [] (items_of pous) → (v : ℕ) (e : BodyElement) → slice_get p.body.elements v ≡ Some e → BreaksIn r (sheet pous p tys marks) v → ⊥
   no_break r never v e there =
       subst (λ (s : List (List Source)). BreaksIn r (sheet_of pous p s) v → ⊥) (mapped_at (λ (q : Pou). sources_in q.body.elements) pous i p [] here)
-          (at_item (λ (x : Item). BreaksIn r (sheet_at pous (links_of pous) x.pou x.owner) x.place → ⊥) pous
-              (each_never (λ (x : Item). BreaksIn r (sheet_at pous (links_of pous) x.pou x.owner) x.place) [] (items_of pous) never) i p here v e there)
+      (at_item (λ (x : Item). BreaksIn r (sheet_at pous (links_of pous) x.pou x.owner) x.place → ⊥) pous
+      (each_never (λ (x : Item). BreaksIn r (sheet_at pous (links_of pous) x.pou x.owner) x.place) [] (items_of pous) never) i p here v e there)
 
   pub keeps : Keeps pous p tys marks i
   keeps =
@@ -190,8 +188,8 @@ module _ (project : Project) (links : Links) (types : Types) (plan : Plan) (c : 
           let link : IsLink g x u = record { first = takes_part g network is x ready.element; second = part_u; wired = inr wire } in
           let listed = linked_there g network is x u ready.element link in
           let no_back : IsFeedback g u x → ⊥ = λ back.
-            let moved = subst (λ w. IsFeedback g w (to_at g.wires marked.wire)) (sym wire.out_of) (subst (λ w. IsFeedback g u w) (sym wire.into) back) in
-            both_ways (get_or marks marked.wire false) (marked.mark ∙ mark) ((planned.marks.each marked.wire marked.below).1 moved) in
+          let moved = subst (λ w. IsFeedback g w (to_at g.wires marked.wire)) (sym wire.out_of) (subst (λ w. IsFeedback g u w) (sym wire.into) back) in
+          both_ways (get_or marks marked.wire false) (marked.mark ∙ mark) ((planned.marks.each marked.wire marked.below).1 moved) in
           fixed.all u el (ready.sources u wire listed no_back) at_el o has
 
       abbrev st : ElementStands pous p tys marks x e
@@ -224,8 +222,8 @@ module _ (project : Project) (links : Links) (types : Types) (plan : Plan) (c : 
   networks_fit : Each (ElementsFit dia dp []) dp.networks
   networks_fit =
       each_map (ElementsFit dia dp []) (network_of dp.elements) networks
-          (each_order g (λ (xs : List ℕ). ElementsFit dia dp [] (network_of dp.elements xs)) planned.networks networks
-              (λ network xs is order. network_fits dia dp g network apart (there_too network is) (ready_fits network is) xs order) planned.found.each planned.orders)
+      (each_order g (λ (xs : List ℕ). ElementsFit dia dp [] (network_of dp.elements xs)) planned.networks networks
+      (λ network xs is order. network_fits dia dp g network apart (there_too network is) (ready_fits network is) xs order) planned.found.each planned.orders)
 
   pub seen_networks_fit : Each (ElementsFit dia (seen project links types plan i p) []) (seen project links types plan i p).networks
   seen_networks_fit =

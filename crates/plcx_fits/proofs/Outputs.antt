@@ -1,7 +1,7 @@
 -- Each output that is read has a type, and is one of the ports of its element.
-use Rattle.std.proofs.Common.{◌≡◌, ◌≢◌, ℕ, zero, suc, ◌+◌, ◌<◌, ◌≤◌, ◌⊎◌, inl, inr, Bool, true, false, cond, not, ◌&&◌, ◌||◌, List, [], ◌∷◌, ◌++◌, map, length, get_or, drop, Option, Some, None, slice_get, refl, sym, ap, ◌∙◌, subst, arith}
-use Rattle.std.specs.Prelude.{is_some, is_none, codes, option_map, option_and_then}
-use Rattle.std.specs.List.{Contains, find, filter, zip, list_any}
+use Rattle.std.proofs.Common.{◌≡◌, ◌≢◌, ℕ, ◌⊎◌, inl, inr, Bool, true, false, cond, not, ◌&&◌, ◌||◌, List, [], ◌∷◌, map, length, drop, Option, Some, None, slice_get, refl, sym, ap, ◌∙◌, subst}
+use Rattle.std.specs.Prelude.{is_some, is_none, codes, option_map}
+use Rattle.std.specs.List.{Contains, find, zip, list_any}
 use Rattle.std.proofs.lemmas.Bool.{or_parts}
 use Rattle.std.proofs.lemmas.List.Elements.{Contains-append_left, Contains-append_right}
 use Rattle.std.proofs.lemmas.Option.{slice_get-map, get_or_from_slice_get}
@@ -16,7 +16,7 @@ use Rattle.plcx_funcs.specs.Pins.{output_class}
 use Rattle.plcx_meaning.specs.Diagram as diagram
 use Rattle.plcx_meaning.specs.Diagram.{Port, port, ports, Enable, OutputPin, has_eno, eno_ports, output_ports}
 use Rattle.plcx_meaning.specs.Functions.{out_type}
-use Rattle.plcx_meaning.proofs.Lists.{contains_cases, contains_first, contains_later, contains_none, contains_map, none_passes}
+use Rattle.plcx_meaning.proofs.Lists.{contains_cases, contains_first, contains_later, contains_none, none_passes}
 use Rattle.plcx_model.specs.declared.body.PinIn.{PinIn}
 use Rattle.plcx_model.specs.declared.body.PinOut.{PinOut}
 use Rattle.plcx_model.specs.declared.body.Kind.{Kind}
@@ -27,14 +27,12 @@ use Rattle.plcx_model.specs.declared.source.Source.{Source}
 use Rattle.plcx_rules.specs.declared.callee.Callee.{Callee}
 use Rattle.plcx_rules.specs.declared.callee.Callee.TheVariants as callee
 use Rattle.plcx_rules.specs.declared.form.Form.{Form}
-use Rattle.plcx_rules.specs.declared.form.Gives.{Gives}
 use Rattle.plcx_rules.specs.declared.form.Gives.TheVariants.{Typed, Grouped}
 use Rattle.plcx_rules.specs.declared.form.Grouping.TheVariants.{Apart}
 use Rattle.plcx_rules.specs.declared.form.Out.{Out}
-use Rattle.plcx_rules.specs.declared.form.Pin.{Pin}
 use Rattle.plcx_rules.specs.declared.rule.LinkRule.TheVariants as rule
 use Rattle.plcx_rules.specs.Texts.{same_name}
-use Rattle.plcx_rules.specs.Callees.{Formal, callee_named, fixed, enabled, result, outputs_of, formal_named, is_enable, is_eno, is_result, output_name, is_function, output_formal}
+use Rattle.plcx_rules.specs.Callees.{Formal, callee_named, fixed, enabled, result, outputs_of, is_enable, is_eno, is_result, output_name, is_function, output_formal}
 use Rattle.plcx_rules.specs.Forms.{pin as form_pin}
 use Rattle.plcx_rules.specs.Forms.{gives_held, text_gives, class_of, gives_class, output_gives, block_outputs, element_pins, form_of}
 use Rattle.plcx_rules.specs.Helds.{Held, OfLiteral, OfVariable, OfInstance, OfOutput, text_held, is_value}
@@ -42,8 +40,7 @@ use Rattle.plcx_rules.specs.Laws.{HasOutput}
 use Rattle.plcx_rules.specs.LinkRules.{breaks, breaks_expression, has_no_callee, breaks_formals, formals_fail, inputs_fail, in_outs_fail, outputs_fail}
 use Rattle.plcx_rules.specs.Types.{Sheet, form_at, no_out, output_among, output_at, gives_at, AtGroup, AtOutput, HasType, DeclaredOutput, OutputOfGroup}
 use Rattle.plcx_view.specs.Blocks.{Wired, among, beside, enable_of, function_links, group_by, fixed_type, output_pin, block_by}
-use Rattle.plcx_view.specs.Kinds.{kind_of}
-use Rattle.plcx_view.specs.Links.{declared_name, listed_name, name_among, port_name, link_at}
+use Rattle.plcx_view.specs.Links.{declared_name, listed_name, name_among, link_at}
 use Rattle.plcx_view.specs.Operands.{literal_by, reading_by}
 use Rattle.plcx_view.specs.Pins as view
 use Rattle.plcx_fits.proofs.Agreed.{Keeps, form_is, pin_grouped}

@@ -1,5 +1,5 @@
 -- The elements of a body with their pins: where the type, the sources and the marks of each stand.
-use Rattle.std.proofs.Common.{◌≡◌, ℕ, zero, suc, ◌+◌, ◌<◌, Bool, true, false, List, [], ◌∷◌, ◌++◌, map, length, take, drop, get_or, Option, Some, None, slice_get, refl, sym, ap, ap₂, ◌∙◌, subst, arith, append_assoc}
+use Rattle.std.proofs.Common.{◌≡◌, ℕ, zero, suc, ◌+◌, ◌<◌, Bool, false, List, [], ◌∷◌, ◌++◌, map, length, take, drop, get_or, Some, slice_get, refl, sym, ap, ap₂, ◌∙◌, subst, arith, append_assoc}
 use Rattle.std.specs.List.{zip, flat_map}
 use Rattle.std.proofs.lemmas.List.{length-append}
 use Rattle.std.proofs.lemmas.Option.{slice_get_within, get_or_from_slice_get}
@@ -18,7 +18,6 @@ use Rattle.plcx_model.specs.declared.source.Wire.{Wire}
 use Rattle.plcx_model.specs.Graph.{wire_at, to_at}
 use Rattle.plcx_model.specs.Numbering.{pins_of, pins_in, wires_at_pin, wires_at_pins}
 use Rattle.plcx_model.specs.Numbering as numbering
-use Rattle.plcx_rules.specs.declared.callee.Callee.{Callee}
 use Rattle.plcx_rules.specs.declared.form.Pin.{Pin}
 use Rattle.plcx_rules.specs.Callees.{callee_named}
 use Rattle.plcx_rules.specs.Forms.{pin, input_class_of, in_out_class_of, block_pins, element_pins, sheet_of}

@@ -1,14 +1,13 @@
 -- Elements that aren't blocks suit their POU.
-use Rattle.std.proofs.Common.{◌≡◌, ◌≢◌, ℕ, zero, suc, ◌+◌, ◌<◌, ◌≤◌, Bool, true, false, not, ◌||◌, List, [], ◌∷◌, map, length, Option, Some, None, slice_get, refl, sym, ap, ◌∙◌, subst, arith}
-use Rattle.std.specs.Prelude.{nat_eq, is_none, option_map}
+use Rattle.std.proofs.Common.{◌≡◌, ◌≢◌, ℕ, ◌≤◌, Bool, true, false, not, ◌||◌, List, [], ◌∷◌, map, length, Option, Some, None, refl, sym, ap, ◌∙◌, subst, arith}
+use Rattle.std.specs.Prelude.{option_map}
 use Rattle.std.specs.List.{Contains}
 use Rattle.plcx_types.specs.declared.ty.Ty.{Ty}
 use Rattle.plcx_types.specs.declared.ty.Ty.TheVariants as ty
-use Rattle.plcx_types.specs.Lists.{Each}
 use Rattle.plcx_funcs.specs.declared.pins.Class.TheVariants as class
 use Rattle.plcx_meaning.specs.Diagram as diagram
 use Rattle.plcx_meaning.specs.Diagram.{Link, Port, port, ports, links_of, Storing}
-use Rattle.plcx_meaning.specs.Fits.{Standing, variables, IsVariable, CanBeWritten, OperandFits, StoringFits, LinkFits, TruthFits, KindFits}
+use Rattle.plcx_meaning.specs.Fits.{Standing, IsVariable, CanBeWritten, OperandFits, StoringFits, LinkFits, TruthFits, KindFits}
 use Rattle.plcx_meaning.specs.Layout as layout
 use Rattle.plcx_meaning.proofs.Lists.{contains_first}
 use Rattle.plcx_model.specs.declared.body.Mods.{Mods}
@@ -28,7 +27,6 @@ use Rattle.plcx_model.specs.declared.project.Pou.{Pou}
 use Rattle.plcx_model.specs.declared.project.Project.{Project}
 use Rattle.plcx_model.specs.Sound.{PinsAreFew, Sound}
 use Rattle.plcx_rules.specs.declared.form.Form.{Form}
-use Rattle.plcx_rules.specs.declared.form.Gives.{Gives}
 use Rattle.plcx_rules.specs.declared.form.Gives.TheVariants.{Typed}
 use Rattle.plcx_rules.specs.declared.form.Out.{Out}
 use Rattle.plcx_rules.specs.declared.form.Pin.{Pin}
@@ -41,10 +39,9 @@ use Rattle.plcx_rules.specs.Helds.{Held, OfLiteral, OfVariable, OfInstance, OfOu
 use Rattle.plcx_rules.specs.Laws.{source_counts}
 use Rattle.plcx_rules.specs.LinkRules.{breaks, lacks_source, breaks_expression, breaks_target}
 use Rattle.plcx_rules.specs.Texts.{is_empty}
-use Rattle.plcx_rules.specs.Types.{Sheet, form_at, output_among, output_at, AtPin, AtGroup, AtOutput, HasType, DeclaredOutput}
-use Rattle.plcx_rules.specs.TypingRules.{Disagrees, OutputIsNoBool, OperandIsNoBool}
-use Rattle.plcx_view.specs.Declared.{lists_of}
-use Rattle.plcx_view.specs.Kinds.{storing_by, storing_of, kind_of}
+use Rattle.plcx_rules.specs.Types.{Sheet, form_at, output_among, output_at, AtPin, AtGroup, HasType, DeclaredOutput}
+use Rattle.plcx_rules.specs.TypingRules.{OutputIsNoBool, OperandIsNoBool}
+use Rattle.plcx_view.specs.Kinds.{storing_by, kind_of}
 use Rattle.plcx_view.specs.Links.{link_of, link_at}
 use Rattle.plcx_view.specs.Operands.{operand_by, target_by, reading_by}
 use Rattle.plcx_view.specs.Pins.{Feed}

@@ -1,16 +1,12 @@
 -- The listed inputs and in-outs of a block with their pins.
-use Rattle.std.proofs.Common.{◌≡◌, ℕ, zero, suc, ◌+◌, ◌<◌, ◌≤◌, Bool, true, false, cond, not, ◌&&◌, ◌||◌, List, [], ◌∷◌, ◌++◌, map, length, drop, Option, Some, None, slice_get, refl, sym, ap, ◌∙◌, subst, arith}
-use Rattle.std.specs.Prelude.{is_some, is_none, option_map, option_and_then}
-use Rattle.std.specs.List.{Contains, find, filter, list_any, zip}
-use Rattle.std.proofs.lemmas.Bool.{or_parts}
+use Rattle.std.proofs.Common.{◌≡◌, ℕ, ◌≤◌, Bool, true, false, cond, List, [], ◌∷◌, ◌++◌, map, length, drop, Option, Some, refl, sym, ap, ◌∙◌, subst, arith}
+use Rattle.std.specs.List.{Contains, filter, zip}
 use Rattle.plcx_types.specs.declared.ty.Ty.{Ty}
 use Rattle.plcx_types.specs.Lists.{Each}
-use Rattle.plcx_meaning.proofs.Lists.{contains_first, contains_later, each_at, each_weaker}
+use Rattle.plcx_meaning.proofs.Lists.{contains_first, contains_later}
 use Rattle.plcx_meaning.proofs.Lookups.{map_append}
-use Rattle.plcx_model.specs.declared.body.Connection.{Connection}
 use Rattle.plcx_model.specs.declared.body.PinIn.{PinIn}
 use Rattle.plcx_model.specs.declared.body.PinOut.{PinOut}
-use Rattle.plcx_model.specs.declared.body.Kind.{Kind}
 use Rattle.plcx_model.specs.declared.body.Kind.TheVariants as kind
 use Rattle.plcx_model.specs.declared.body.BodyElement.{BodyElement}
 use Rattle.plcx_model.specs.declared.project.Pou.{Pou}
@@ -79,7 +75,7 @@ module _ (pous : List Pou) (p : Pou) (tys : List Ty) (marks : List Bool) where
       }
 
   module _ (k : ℕ) (keeps : Keeps pous p tys marks k) (u : ℕ) (e : BodyElement) (st : ElementStands pous p tys marks u e) (type_name : List ℕ) (instance : Option (List ℕ)) (inputs in_outs : List PinIn) (outputs : List PinOut)
-           (is : e.kind ≡ kind.Block type_name instance inputs in_outs outputs) (c : Callee) (called : callee_named pous type_name ≡ Some c) where
+      (is : e.kind ≡ kind.Block type_name instance inputs in_outs outputs) (c : Callee) (called : callee_named pous type_name ≡ Some c) where
     abbrev pub input_form : PinIn → Pin
     input_form i = form_pin u (input_class_of pous (Some c) inputs i) i.mods.negated
 
@@ -116,12 +112,12 @@ module _ (pous : List Pou) (p : Pou) (tys : List Ty) (marks : List Bool) where
     pub pins_of_block : PinsOf
     pins_of_block =
         let al : Along (Stands pous p tys marks u) (map input_form inputs ++ map in_out_form in_outs) st.pins =
-          subst (λ fs. Along (Stands pous p tys marks u) fs st.pins) (ap (element_pins pous p u) is ∙ forms_are) st.stand in
+        subst (λ fs. Along (Stands pous p tys marks u) fs st.pins) (ap (element_pins pous p u) is ∙ forms_are) st.stand in
         let counts : counts_of st.pins ≡ map length (map (λ (i : PinIn). i.input) inputs) ++ map length (map (λ (i : PinIn). i.input) in_outs) =
-          ap (map length) st.sources ∙ each_place _ p.body.elements u e st.element keeps.counted ∙ ap source_counts is ∙ map_append length (map (λ (i : PinIn). i.input) inputs) (map (λ (i : PinIn). i.input) in_outs) in
+        ap (map length) st.sources ∙ each_place _ p.body.elements u e st.element keeps.counted ∙ ap source_counts is ∙ map_append length (map (λ (i : PinIn). i.input) inputs) (map (λ (i : PinIn). i.input) in_outs) in
         let a = zipped u input_form inputs inputs (map in_out_form in_outs) (map length (map (λ (i : PinIn). i.input) in_outs)) (map (sources_at p.body.elements) (map (λ (i : PinIn). i.input) in_outs)) st.pins (λ i h. h) al counts all_sources in
         let b = zipped u in_out_form in_outs in_outs [] [] [] (drop (length inputs) st.pins) (λ i h. h)
-            (subst (λ fs. Along (Stands pous p tys marks u) fs (drop (length inputs) st.pins)) (sym (nothing_more (map in_out_form in_outs))) a.along)
-            (a.left ∙ sym (no_more (map length (map (λ (i : PinIn). i.input) in_outs))))
-            (a.behind ∙ sym (no_sources (map (sources_at p.body.elements) (map (λ (i : PinIn). i.input) in_outs)))) in
+        (subst (λ fs. Along (Stands pous p tys marks u) fs (drop (length inputs) st.pins)) (sym (nothing_more (map in_out_form in_outs))) a.along)
+        (a.left ∙ sym (no_more (map length (map (λ (i : PinIn). i.input) in_outs))))
+        (a.behind ∙ sym (no_sources (map (sources_at p.body.elements) (map (λ (i : PinIn). i.input) in_outs)))) in
         record { inputs_stand = a.each; in_outs_stand = b.each; long = a.long; more = b.long }
