@@ -35,8 +35,7 @@ use Rattle.plcx_model.specs.declared.body.PinOut.{PinOut}
 use Rattle.plcx_rules.specs.LinkRules.{formals_fail}
 use Rattle.plcx_view.specs.Checked.{IsBodyPlan, graph_of_pou, IsChecked}
 use Rattle.plcx_view.specs.Pins.{Pin, pins_from}
-use Rattle.plcx_view.specs.Diagrams.{element_of, elements_from, without_networks, with_fed, elements_of, no_plan, pous_from, diagrams_of}
-use Rattle.plcx_fits.specs.Networks.{NetworksFit}
+use Rattle.plcx_view.specs.Diagrams.{element_of, elements_from, without_networks, with_fed, elements_of, no_plan, pous_from}
 use Rattle.plcx_fits.proofs.Bodies.{ids_differ, count_of, elements_few, networks_few}
 use Rattle.plcx_fits.proofs.Fed.{body_parts}
 use Rattle.plcx_fits.proofs.Judged.{link_verdict, kept_at}
@@ -191,20 +190,3 @@ module _ (project : Project) (links : Links) (types : Types) (plan : Plan) (c : 
     pous = each_pou (PouFits dia) (λ i p at. pou_fits i p at (networks i p at));
     nests = each_pou (PouNests 16 dia) (λ i p at. pou_nests project links types plan c.sound 16 i p (pou_sound i p at) (sound_nests project links types plan c.sound p (pou_sound i p at)));
   }
-
-  -- what holds of each diagram holds of that of a POU
-  at_pou : (P : diagram.Pou → Type 0) (k : ℕ) (ps : List Pou) → Each P (pous_from project links types plan k ps) → (i : ℕ) (p : Pou) → slice_get ps i ≡ Some p → P (shown (k + i) p)
-  at_pou P k [] all i p at = absurd (cc)
-  at_pou P k (q ∷ ps) all zero p at =
-      let same : q ≡ p = cc in
-      let stays : k ≡ k + 0 = omega arith in
-      subst (λ j. P (shown j p)) stays (subst (λ (r : Pou). P (shown k r)) same all.0)
-  at_pou P k (q ∷ ps) all (suc i) p at =
-      let moved : k + 1 + i ≡ k + suc i = omega arith in
-      subst (λ j. P (shown j p)) moved (at_pou P (k + 1) ps all.1 i p at)
-
-  pub from_networks : NetworksFit dia → ProjectFits dia
-  from_networks all = project_fits (λ i p at. let stays : 0 + i ≡ i = omega arith in subst (λ j. Each (ElementsFit dia (shown j p) []) (shown j p).networks) stays (at_pou (λ (d : diagram.Pou). Each (ElementsFit dia d []) d.networks) 0 pous all i p at))
-
-pub fits_around_networks : (project : Project) (links : Links) (types : Types) (plan : Plan) → IsChecked project links types plan → NetworksFit (diagrams_of project links types plan) → ProjectFits (diagrams_of project links types plan)
-fits_around_networks project links types plan c all = from_networks project links types plan c all

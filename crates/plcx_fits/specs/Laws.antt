@@ -1,4 +1,4 @@
--- The laws on the diagram of a checked project.
+-- The law on the diagram of a checked project.
 use Rattle.plcx_meaning.specs.Fits.{ProjectFits}
 use Rattle.plcx_model.specs.declared.plan.Links.{Links}
 use Rattle.plcx_model.specs.declared.plan.Plan.{Plan}
@@ -6,9 +6,7 @@ use Rattle.plcx_model.specs.declared.plan.Types.{Types}
 use Rattle.plcx_model.specs.declared.project.Project.{Project}
 use Rattle.plcx_view.specs.Checked.{IsChecked}
 use Rattle.plcx_view.specs.Diagrams.{diagrams_of}
-use Rattle.plcx_fits.specs.Networks.{NetworksFit}
 
--- it fits where its networks do
-abbrev pub FitAroundNetworks : Type 0
-FitAroundNetworks = (project : Project) (links : Links) (types : Types) (plan : Plan) → IsChecked project links types plan
-    → NetworksFit (diagrams_of project links types plan) → ProjectFits (diagrams_of project links types plan)
+-- it keeps what the meaning of diagrams presumes
+abbrev pub CheckedFits : Type 0
+CheckedFits = (project : Project) (links : Links) (types : Types) (plan : Plan) → IsChecked project links types plan → ProjectFits (diagrams_of project links types plan)

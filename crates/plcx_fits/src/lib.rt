@@ -3,4 +3,4 @@
 
 mod laws;
 
-pub use laws::checked_fits_around_networks;
+pub use laws::checked_fits;
