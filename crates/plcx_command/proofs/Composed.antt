@@ -1,6 +1,6 @@
 -- The passes of the compiler, one after another.
 use Rattle.std.proofs.Common.{◌≡◌, ℕ, List, [], ◌∷◌, ◌≤◌, ◌^◌, length, arith, ap, sym, ◌∙◌, subst, get_or, Some, None}
-use Rattle.plcx_meaning.specs.Base.{Each}
+use Rattle.plcx_types.specs.Lists.{Each}
 use Rattle.plcx_meaning.specs.Diagram as diagram
 use Rattle.plcx_meaning.specs.Templates.{unit_of}
 use Rattle.plcx_meaning.specs.Tree.{PouText}

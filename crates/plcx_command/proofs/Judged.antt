@@ -1,6 +1,6 @@
 -- The verdict on a file, pass by pass.
 use Rattle.std.proofs.Common.{◌≡◌, ◌∙◌, ℕ, List, Some, None, sym, ap, subst, refl}
-use Rattle.plcx_meaning.specs.Base.{Each}
+use Rattle.plcx_types.specs.Lists.{Each}
 use Rattle.plcx_xml.specs.Faults.{Fails}
 use Rattle.plcx_xml.specs.StandsForTree.{IsTreeOf}
 use Rattle.plcx_xml.specs.declared.error.XmlError.{XmlError}

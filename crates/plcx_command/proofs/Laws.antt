@@ -4,10 +4,11 @@ use Rattle.plcx_io.specs.Counts.{Rose}
 use Rattle.plcx_io.specs.Told.{Tells}
 use Rattle.plcx_words.specs.Command.{Command, check, compile, simulate, run, bench}
 use Rattle.plcx_model.specs.declared.broken.Broken as model
+use Rattle.plcx_types.specs.Limits.{max_file_bytes}
 use Rattle.plcx_command.specs.Answer.{Answer, output, refusal, ok_answer, ok_line, usage_answer, usage_line, read_answer, read_line, broken_answer, broken_line, memory_answer, memory_line, not_built_answer, not_built_line, write_line}
 use Rattle.plcx_command.specs.FirstForm.{IsCompiled}
 use Rattle.plcx_command.specs.Verdict as verdict
-use Rattle.plcx_command.specs.Verdict.{Verdict, IsVerdict, FileVerdict, TooLong, Within, at_byte, limit}
+use Rattle.plcx_command.specs.Verdict.{Verdict, IsVerdict, FileVerdict, TooLong, Within, at_byte}
 use Rattle.plcx_command.specs.Says.{Says, AfterRead, fault, too_long, whole, Judged, Answers, IsText, IsAccepting, long_answer}
 use Rattle.plcx_command.specs.Ends.{Ends, Change, Written, Gets, GetsFront, Unchanged, MaySay}
 use Rattle.plcx_command.specs.Headline as headline
@@ -111,7 +112,7 @@ module _ (one_verdict : (bytes : List ℕ) (v w : Verdict) → FileVerdict bytes
   file-answer : (next : List ℕ → Answer → Type 0) (name bytes : List ℕ) (a : Answer) → told name ≡ Some bytes → FileSays next name a
       → (rose name × (a ≡ read_answer name)) ⊎ IsAnswered next bytes a
   file-answer next name bytes a k (fault r e) = inl (r, e)
-  file-answer next name bytes a k (too_long l e) = inr (record { verdict = verdict.Broken (at_byte 7 limit); judged = TooLong (rw k at l); answers = e })
+  file-answer next name bytes a k (too_long l e) = inr (record { verdict = verdict.Broken (at_byte 7 max_file_bytes); judged = TooLong (rw k at l); answers = e })
   file-answer next name bytes a k (whole got l t j) =
       let same : got ≡ bytes = tells-same name got bytes k t in
       inr (subst (λ (b : List ℕ). IsAnswered next b a) same (record { verdict = j.verdict; judged = Within l j.judged; answers = j.answers }))
@@ -242,7 +243,7 @@ module _ (one_verdict : (bytes : List ℕ) (v w : Verdict) → FileVerdict bytes
       → FileSays next name (refusal why'.Broken line) → IsBrokenLine command line
   file-broken next only command name line is (fault r e) = absurd (cc)
   file-broken next only command name line is (too_long l e) = record {
-    broken = at_byte 7 limit;
+    broken = at_byte 7 max_file_bytes;
     line_is = cc;
     judged = λ k. let held = k name is in record { name = name; bytes = held.0; reads = is; tells = held.1; judged = TooLong (rw held.1 at l) };
   }

@@ -10,8 +10,9 @@ use Rattle.plcx_model.specs.declared.broken.Place.{Place}
 use Rattle.plcx_model.specs.declared.broken.Place.TheVariants.{Byte}
 use Rattle.plcx_model.specs.declared.project.Project as model'
 use Rattle.plcx_profile.specs.Profile.{IsBroken, ProfileVerdict, project_in}
+use Rattle.plcx_types.specs.Limits.{max_file_bytes}
 use Rattle.plcx_command.specs.FirstForm.{IsFirst}
-use Rattle.plcx_command.specs.Verdict.{Verdict, Accepted, NotBuilt, Broken, IsVerdict, InTree, InProfile, InOtherForm, InForm, FileVerdict, TooLong, Within, tree_rule, limit}
+use Rattle.plcx_command.specs.Verdict.{Verdict, Accepted, NotBuilt, Broken, IsVerdict, InTree, InProfile, InOtherForm, InForm, FileVerdict, TooLong, Within, tree_rule}
 
 some_same : {A : Type 0} (x y : A) → Some x ≡ Some y → x ≡ y
 some_same x y h = cc

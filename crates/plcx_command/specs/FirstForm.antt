@@ -1,6 +1,6 @@
 -- Which projects are compiled by now, and which text each has.
 use Rattle.std.specs.Prelude.{◌≡◌, ◌≤◌, ℕ, List, [], ◌∷◌, Some, None}
-use Rattle.plcx_meaning.specs.Base.{Each}
+use Rattle.plcx_types.specs.Lists.{Each}
 use Rattle.plcx_meaning.specs.Diagram as diagram
 use Rattle.plcx_meaning.specs.Templates.{unit_of}
 use Rattle.plcx_meaning.specs.Ready.{IsReady}

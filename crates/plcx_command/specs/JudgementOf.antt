@@ -1,6 +1,6 @@
 -- A verdict of the code.
 use Rattle.std.specs.Prelude.{◌≡◌, ℕ, List, Some, None, ⊤}
-use Rattle.plcx_meaning.specs.Base.{Each}
+use Rattle.plcx_types.specs.Lists.{Each}
 use Rattle.plcx_xml.specs.StandsForTree.{IsTreeOf}
 use Rattle.plcx_xml.specs.declared.error.XmlError.{XmlError}
 use Rattle.plcx_xml.specs.declared.tree.Node.{Node}

@@ -2,15 +2,16 @@
 use Rattle.std.specs.Prelude.{◌≡◌, ◌≤◌, ◌<◌, ℕ, List, Option, Some, None, length, IfSome}
 use Rattle.plcx_io.specs.Told.{Tells}
 use Rattle.plcx_words.specs.Command.{Command, check, compile, simulate, run, bench}
+use Rattle.plcx_types.specs.Limits.{max_file_bytes}
 use Rattle.plcx_command.specs.Answer.{Answer, output, ok_answer, usage_answer, not_built_answer, read_answer, broken_answer}
 use Rattle.plcx_command.specs.FirstForm.{IsCompiled}
-use Rattle.plcx_command.specs.Verdict.{Verdict, IsVerdict, Accepted, NotBuilt, Broken, at_byte, limit}
+use Rattle.plcx_command.specs.Verdict.{Verdict, IsVerdict, Accepted, NotBuilt, Broken, at_byte}
 
 -- What the read of a file comes to: a fault of its name, a file that is too long, or its bytes and what follows on them.
 pub data AfterRead (told : Option (List ℕ)) (rose : Type 0) (name : List ℕ) (long : Answer) (next : List ℕ → Answer → Type 0) (a : Answer) : Type 0 where
   fault : rose → a ≡ read_answer name → AfterRead told rose name long next a
-  too_long : IfSome told (λ bytes. limit < length bytes) → a ≡ long → AfterRead told rose name long next a
-  whole : (bytes : List ℕ) → length bytes ≤ limit → Tells told bytes → next bytes a → AfterRead told rose name long next a
+  too_long : IfSome told (λ bytes. max_file_bytes < length bytes) → a ≡ long → AfterRead told rose name long next a
+  whole : (bytes : List ℕ) → length bytes ≤ max_file_bytes → Tells told bytes → next bytes a → AfterRead told rose name long next a
 
 -- what is answered to a verdict: what follows on a file that is accepted, or its refusal
 abbrev pub Answers : (Answer → Type 0) → Verdict → Answer → Type 0
@@ -32,7 +33,7 @@ pub record IsText (bytes : List ℕ) (a : Answer) : Type 0 where
 
 -- the answer to a file that is longer than a file may be
 abbrev pub long_answer : Answer
-long_answer = broken_answer (at_byte 7 limit)
+long_answer = broken_answer (at_byte 7 max_file_bytes)
 
 -- the answer to a file that is only judged
 abbrev pub IsAccepting : Answer → Type 0

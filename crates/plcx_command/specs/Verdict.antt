@@ -1,5 +1,6 @@
 -- What is said of a file before anything is made of it.
 use Rattle.std.specs.Prelude.{◌≡◌, ◌≤◌, ◌<◌, ℕ, List, length, Option, Some, None}
+use Rattle.plcx_types.specs.Limits.{max_file_bytes}
 use Rattle.plcx_xml.specs.Faults.{Fails}
 use Rattle.plcx_xml.specs.StandsForTree.{IsTreeOf}
 use Rattle.plcx_xml.specs.declared.error.XmlError.{XmlError}
@@ -21,10 +22,6 @@ pub data Verdict : Type 0 where
 abbrev pub at_byte : ℕ → ℕ → model.Broken
 at_byte rule byte = record { rule = record { 0 = rule }; place = Byte byte }
 
--- the bytes that a file may have
-abbrev pub limit : ℕ
-limit = 16777216
-
 -- the rule behind a fault of the tree
 abbrev pub tree_rule : XmlError → Option model.Broken
 tree_rule (xml.NotUtf8 at) = Some (at_byte 1 at)
@@ -42,5 +39,5 @@ pub data IsVerdict (bytes : List ℕ) : Verdict → Type 0 where
 
 -- The verdict on a file, whose length is looked at first.
 pub data FileVerdict (bytes : List ℕ) : Verdict → Type 0 where
-  TooLong : limit < length bytes → FileVerdict bytes (Broken (at_byte 7 limit))
-  Within : {v : Verdict} → length bytes ≤ limit → IsVerdict bytes v → FileVerdict bytes v
+  TooLong : max_file_bytes < length bytes → FileVerdict bytes (Broken (at_byte 7 max_file_bytes))
+  Within : {v : Verdict} → length bytes ≤ max_file_bytes → IsVerdict bytes v → FileVerdict bytes v

@@ -1,5 +1,5 @@
 //! What is to be written, before anything is.
-ghost use Rattle.std.specs.Prelude.{◌≡◌, IfOk};
+ghost use Rattle.std.specs.Prelude.{◌≡◌, None, IfOk};
 ghost use Rattle.plcx_io.specs.Counts.{Rose};
 ghost use Rattle.plcx_words.specs.Command.{command_of};
 ghost use Rattle.plcx_words.specs.Says.{said_by};
@@ -14,11 +14,9 @@ use crate::status::Refused;
 use plcx_io::{Desk, LoadError, load};
 use plcx_model::Broken;
 use plcx_types::NoMemory;
+use plcx_types::limits::MAX_FILE_BYTES;
 use plcx_words::{Command, Words, WordsError, command_of};
 use std::alloc::Global;
-
-/// The bytes that a file may have.
-const LIMIT: u64 = 16777216;
 
 fn usage(alloc: Global) -> Result<Reply, NoMemory>
     ensures { IfOk result (λ reply. answer_of reply ≡ usage_answer) }
@@ -76,7 +74,7 @@ fn compiled(alloc: Global, bytes: &[u8]) -> Result<Reply, NoMemory>
 fn too_long(alloc: Global) -> Result<Reply, NoMemory>
     ensures { IfOk result (λ reply. answer_of reply ≡ long_answer) }
 {
-    broken(alloc, &at_byte(7, LIMIT))
+    broken(alloc, &at_byte(7, MAX_FILE_BYTES))
 }
 
 /// Reads the file and judges it.
@@ -85,7 +83,7 @@ fn check_file<D: Desk>(alloc: Global, desk: &mut D, name: &str) -> Result<Reply,
         (Rose (D.faults desk.old name.now) (D.faults desk.new name.now))
         name.now long_answer checked (answer_of reply)) }
 {
-    match load(alloc, desk, name, LIMIT) {
+    match load(alloc, desk, name, MAX_FILE_BYTES) {
         Ok(bytes) => checked(alloc, &bytes),
         Err(LoadError::Read) => read_fault(alloc, name),
         Err(LoadError::TooLong { limit: _ }) => too_long(alloc),
@@ -99,7 +97,7 @@ fn compile_file<D: Desk>(alloc: Global, desk: &mut D, name: &str) -> Result<Repl
         (Rose (D.faults desk.old name.now) (D.faults desk.new name.now))
         name.now long_answer compiled (answer_of reply)) }
 {
-    match load(alloc, desk, name, LIMIT) {
+    match load(alloc, desk, name, MAX_FILE_BYTES) {
         Ok(bytes) => compiled(alloc, &bytes),
         Err(LoadError::Read) => read_fault(alloc, name),
         Err(LoadError::TooLong { limit: _ }) => too_long(alloc),
@@ -121,8 +119,9 @@ fn obey<D: Desk>(alloc: Global, command: Command<'_>, desk: &mut D) -> Result<Re
 
 /// What the words answer. Where they are no command, the desk is as it was.
 pub fn decide<D: Desk>(alloc: Global, words: &Words, desk: &mut D) -> Result<Reply, NoMemory>
-    ensures { IfOk result (λ reply. Says (D.file desk.old)
+    ensures says { IfOk result (λ reply. Says (D.file desk.old)
         (λ name. Rose (D.faults desk.old name) (D.faults desk.new name)) (command_of words.now) (answer_of reply)) }
+    ensures untouched { command_of words.now ≡ None → desk.new ≡ desk.old }
 {
     match command_of(alloc, words) {
         Ok(command) => obey(alloc, command, desk),

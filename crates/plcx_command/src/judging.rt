@@ -1,6 +1,6 @@
 //! The verdict on a file, and the text of one that is accepted.
 ghost use Rattle.std.specs.Prelude.{◌≡◌, IfOk, MatchResult};
-ghost use Rattle.plcx_meaning.specs.Base.{Each};
+ghost use Rattle.plcx_types.specs.Lists.{Each};
 ghost use Rattle.plcx_xml.specs.StandsForTree.{IsTreeOf};
 ghost use Rattle.plcx_first_model.specs.Sound.{IsSound};
 ghost use Rattle.plcx_first_order.specs.Planned.{IsPlanned};

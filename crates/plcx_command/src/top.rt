@@ -1,4 +1,5 @@
 //! The top call.
+ghost use Rattle.std.specs.Prelude.{◌≡◌, None};
 ghost use Rattle.plcx_io.specs.Counts.{Rose};
 ghost use Rattle.plcx_words.specs.Command.{command_of};
 ghost use Rattle.plcx_command.specs.Ends.{Ends, change};
@@ -24,6 +25,7 @@ fn run<D: Desk, O: Sink, E: Sink>(
         (command_of words.now) result
         (change (O.written out.old) (O.written out.new) (O.faults out.old) (O.faults out.new))
         (change (E.written err.old) (E.written err.new) (E.faults err.old) (E.faults err.new)) }
+    ensures untouched { command_of words.now ≡ None → desk.new ≡ desk.old }
 {
     match decide(alloc, words, desk) {
         Ok(Reply::Output(bytes)) => put(&bytes, out, err),
@@ -61,6 +63,8 @@ pub fn plcx<D: Desk, O: Sink, E: Sink>(
     ensures usage { RefusesUsage (command_of words.now) result
         (change (O.written out.old) (O.written out.new) (O.faults out.old) (O.faults out.new))
         (change (E.written err.old) (E.written err.new) (E.faults err.old) (E.faults err.new)) }
+
+    ensures untouched { command_of words.now ≡ None → desk.new ≡ desk.old }
 
     ensures broken { RefusesBroken (D.file desk.old) (command_of words.now) result
         (change (O.written out.old) (O.written out.new) (O.faults out.old) (O.faults out.new))

@@ -3,7 +3,7 @@ use Rattle.std.proofs.Common.{◌≡◌, ◌≤◌, ◌<◌, ◌^◌, ℕ, ℤ, 
 use borrow.Author.Tests.{leb-true, ltb-true}
 use Rattle.plcx_types.specs.Name.{is_identifier}
 use Rattle.plcx_types.specs.Reserved.{is_reserved}
-use Rattle.plcx_meaning.specs.Base.{Each}
+use Rattle.plcx_types.specs.Lists.{Each}
 use Rattle.plcx_meaning.specs.Fits.{IsGoodName}
 use Rattle.plcx_model.specs.declared.body.BodyElement.{BodyElement}
 use Rattle.plcx_model.specs.declared.project.Variable as model

@@ -3,7 +3,7 @@ ghost use Rattle.std.specs.Prelude.{◌≡◌, Some, None, IfOk, Err};
 ghost use Rattle.std.specs.List.{list_any};
 ghost use Rattle.std.specs.Str.{bytes_eq};
 ghost use Rattle.plcx_types.specs.Name.{in_lower_case};
-ghost use Rattle.plcx_meaning.specs.Base.{Each};
+ghost use Rattle.plcx_types.specs.Lists.{Each};
 ghost use Rattle.plcx_model.specs.declared.project.Project as model;
 ghost use Rattle.plcx_first_model.specs.Sound.{IsSound};
 ghost use Rattle.plcx_first_model.specs.declared.project.Project.{Project};

@@ -3,7 +3,8 @@ use Rattle.std.proofs.Common.{◌≡◌, ℕ, suc, ◌≤◌, inl, inr, true, no
 use Rattle.std.specs.List.{Contains, list_any}
 use Rattle.std.proofs.lemmas.Bool.{cases_Bool, and_parts, not-true, both_ways, eqb-true, eq-eqb}
 use Rattle.std.proofs.lemmas.List.{length-map, length-append}
-use Rattle.plcx_meaning.specs.Base.{Each, all_differ}
+use Rattle.plcx_types.specs.Lists.{Each}
+use Rattle.plcx_meaning.specs.Base.{all_differ}
 use Rattle.plcx_first_model.specs.declared.project.Element.{Element}
 use Rattle.plcx_first_model.specs.declared.project.Pou.{Pou}
 use Rattle.plcx_first_model.specs.Networks.{IsClass, all_of, AreNetworks}

@@ -10,7 +10,8 @@ use Rattle.std.proofs.lemmas.List.Sums.{sum_by-cons}
 use Rattle.plcx_types.specs.Name.{in_lower_case}
 use Rattle.plcx_types.specs.TypeName.{type_named}
 use Rattle.plcx_types.specs.declared.ty.Ty.TheVariants as ty
-use Rattle.plcx_meaning.specs.Base.{Path, Each, all_differ, are_distinct}
+use Rattle.plcx_types.specs.Lists.{Each}
+use Rattle.plcx_meaning.specs.Base.{Path, all_differ, are_distinct}
 use Rattle.plcx_meaning.specs.Tree.{Local, Input, Plain, Constant, Declaration}
 use Rattle.plcx_meaning.specs.Layout as layout
 use Rattle.plcx_meaning.specs.Layout.{variable, variables_of, variable_named, Scope, Leaf, variable_leaves, leaves, layout}

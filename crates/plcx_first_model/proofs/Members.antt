@@ -3,7 +3,8 @@ use Rattle.std.proofs.Common.{◌≡◌, ℕ, zero, suc, ◌<◌, ◌⊎◌, inl
 use Rattle.std.specs.List.{Contains, list_any, flat_map}
 use Rattle.std.proofs.lemmas.List.Elements.{Contains-append_left, Contains-append_right}
 use Rattle.std.proofs.lemmas.Bool.{or_cases, or_left, or_right, and_parts, not-true, both_ways, eq-eqb}
-use Rattle.plcx_meaning.specs.Base.{Each, all_differ}
+use Rattle.plcx_types.specs.Lists.{Each}
+use Rattle.plcx_meaning.specs.Base.{all_differ}
 
 pub none_there : {X : Type 0} (x : X) → Contains [] x → ⊥
 none_there x h = omega (arith, h.1)

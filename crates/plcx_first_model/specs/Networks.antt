@@ -1,7 +1,8 @@
 -- How the elements of a body fall into networks, and the order in each.
 use Rattle.std.specs.Prelude.{◌≡◌, ◌<◌, ◌⊎◌, ℕ, ◌<ℤ◌, true, List, [], ◌∷◌, map, length}
 use Rattle.std.specs.List.{Contains, flat_map}
-use Rattle.plcx_meaning.specs.Base.{Each, all_differ}
+use Rattle.plcx_types.specs.Lists.{Each}
+use Rattle.plcx_meaning.specs.Base.{all_differ}
 use Rattle.plcx_first_model.specs.declared.project.Element.{Element}
 use Rattle.plcx_first_model.specs.declared.project.Pou.{Pou}
 use Rattle.plcx_first_model.specs.Shape.{sources_of}

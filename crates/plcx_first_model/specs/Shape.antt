@@ -1,7 +1,8 @@
 -- The bodies that are built by now: each outVariable has one connection, to an inVariable, and each inVariable is named by one.
 use Rattle.std.specs.Prelude.{◌≡◌, ◌&&◌, ℕ, Bool, true, false, List, [], ◌∷◌, map, nat_eq, count_by}
 use Rattle.std.specs.List.{list_any, flat_map}
-use Rattle.plcx_meaning.specs.Base.{Each, all_differ}
+use Rattle.plcx_types.specs.Lists.{Each}
+use Rattle.plcx_meaning.specs.Base.{all_differ}
 use Rattle.plcx_first_model.specs.declared.project.Connection.{Connection}
 use Rattle.plcx_first_model.specs.declared.project.Kind.{Kind}
 use Rattle.plcx_first_model.specs.declared.project.Kind.TheVariants as kind

@@ -1,7 +1,8 @@
 -- What every POU of a file that is read keeps: good names, each once, and numbers within their limits.
 use Rattle.std.specs.Prelude.{◌≡◌, ◌≤◌, ◌<◌, ◌^◌, true, map, length}
 use Rattle.plcx_types.specs.Name.{in_lower_case}
-use Rattle.plcx_meaning.specs.Base.{Each, are_distinct}
+use Rattle.plcx_types.specs.Lists.{Each}
+use Rattle.plcx_meaning.specs.Base.{are_distinct}
 use Rattle.plcx_meaning.specs.Fits.{IsGoodName}
 use Rattle.plcx_first_model.specs.declared.project.Variable.{Variable}
 use Rattle.plcx_first_model.specs.declared.project.Element.{Element}

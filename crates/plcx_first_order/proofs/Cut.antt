@@ -8,7 +8,8 @@ use Rattle.std.proofs.lemmas.List.Elements.{All-from_recursion, All-contains, Co
 use Rattle.std.proofs.lemmas.List.Sorted.{Contains-permutation, IsPermutation-map, IsPermutation-sym}
 use Rattle.std.proofs.lemmas.Map.Keys.{IsDistinct-head, IsDistinct-tail, IsDistinct-IsPermutation}
 use Rattle.std.proofs.lemmas.Option.{slice_get_within, slice_get-get_or, get_or_from_slice_get}
-use Rattle.plcx_meaning.specs.Base.{Each, all_differ}
+use Rattle.plcx_types.specs.Lists.{Each}
+use Rattle.plcx_meaning.specs.Base.{all_differ}
 use Rattle.plcx_first_model.specs.declared.project.Element.{Element}
 use Rattle.plcx_first_model.specs.declared.project.Kind.{Kind}
 use Rattle.plcx_first_model.specs.declared.project.Kind.TheVariants as kind

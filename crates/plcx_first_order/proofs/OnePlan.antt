@@ -4,7 +4,8 @@ use Rattle.std.specs.List.{Contains, list_any}
 use Rattle.std.proofs.lemmas.Bool.{and_parts, not-true, both_ways, eq-eqb}
 use Rattle.std.proofs.lemmas.Int.{ints}
 use Rattle.std.proofs.lemmas.List.Elements.{Contains-append_left, Contains-append_right, Contains-append_cases}
-use Rattle.plcx_meaning.specs.Base.{Each, all_differ}
+use Rattle.plcx_types.specs.Lists.{Each}
+use Rattle.plcx_meaning.specs.Base.{all_differ}
 use Rattle.plcx_first_model.specs.declared.project.Element.{Element}
 use Rattle.plcx_first_model.specs.declared.project.Pou.{Pou}
 use Rattle.plcx_first_model.specs.Networks.{KeyBelow, IsOrder, ComesBefore, AreInOrder, IsClass, all_of, AreNetworks}

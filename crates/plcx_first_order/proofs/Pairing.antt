@@ -9,7 +9,7 @@ use Rattle.std.proofs.lemmas.Option.{slice_get_read}
 use Rattle.std.proofs.lemmas.Map.Keys.{IsDistinct-push}
 use Rattle.std.specs.List.{Contains, IsDistinct, list_any, position_or_len}
 use Rattle.std.specs.Ordering.{ord_min}
-use Rattle.plcx_meaning.specs.Base.{Each}
+use Rattle.plcx_types.specs.Lists.{Each}
 use Rattle.plcx_first_model.specs.declared.project.Element.{Element}
 use Rattle.plcx_first_model.specs.Shape.{sources_of, is_in, is_input_id}
 use Rattle.plcx_first_model.proofs.Members.{each-weaker, each_at, from_map, passing}

@@ -2,7 +2,7 @@
 use Rattle.std.specs.Prelude.{◌≡◌, ◌<◌, ◌&&◌, ℕ, Bool, true, List, [], ◌∷◌, map, nat_eq, slice_get, Some, Contains}
 use Rattle.std.specs.List.{IsDistinct}
 use Rattle.std.specs.Ordering.{ord_min}
-use Rattle.plcx_meaning.specs.Base.{Each}
+use Rattle.plcx_types.specs.Lists.{Each}
 use Rattle.plcx_first_model.specs.declared.plan.Network.{Network}
 use Rattle.plcx_first_model.specs.declared.project.Element.{Element}
 use Rattle.plcx_first_model.specs.Shape.{sources_of, is_in, is_input_id}

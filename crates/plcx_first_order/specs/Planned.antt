@@ -1,6 +1,6 @@
 -- Which plan is that of a project.
 use Rattle.std.specs.Prelude.{◌≡◌, ◌≤◌, ◌^◌, [], ◌∷◌, length}
-use Rattle.plcx_meaning.specs.Base.{Each}
+use Rattle.plcx_types.specs.Lists.{Each}
 use Rattle.plcx_first_model.specs.declared.plan.Plan.{Plan}
 use Rattle.plcx_first_model.specs.declared.project.Pou.{Pou}
 use Rattle.plcx_first_model.specs.declared.project.Project.{Project}

@@ -1,7 +1,8 @@
 //! Whether a body is built.
 ghost use Rattle.std.specs.Prelude.{◌≡◌, ◌↔◌, ◌++◌, ◌&&◌, map, length, drop, nat_eq, count_by, IsTrue, IfOk, OnOk, true, ℕ, [], ◌∷◌};
 ghost use Rattle.std.specs.List.{list_any};
-ghost use Rattle.plcx_meaning.specs.Base.{Each, all_differ};
+ghost use Rattle.plcx_types.specs.Lists.{Each};
+ghost use Rattle.plcx_meaning.specs.Base.{all_differ};
 ghost use Rattle.plcx_first_model.specs.Shape.{sources_of, connections_of, KindIsFirst, BodyIsFirst, is_input_id};
 ghost use Rattle.plcx_first_model.specs.Names.{names_one};
 

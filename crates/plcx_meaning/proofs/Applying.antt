@@ -11,7 +11,8 @@ use Rattle.plcx_types.specs.Name.{in_lower_case}
 use Rattle.plcx_types.specs.Value.{Value}
 use Rattle.plcx_funcs.specs.declared.func.Func.{Func}
 use Rattle.plcx_funcs.specs.Applied.{value, applied}
-use Rattle.plcx_meaning.specs.Base.{is_true, Each, Faulted, Ended, then_do}
+use Rattle.plcx_types.specs.Lists.{Each}
+use Rattle.plcx_meaning.specs.Base.{is_true, Faulted, Ended, then_do}
 use Rattle.plcx_meaning.specs.Tree.{Expression, Assign, If, statements}
 use Rattle.plcx_meaning.specs.Functions.{Answer, Given, Faulty, Missing, out_type, answer}
 use Rattle.plcx_meaning.specs.Diagram.{Enable, has_eno, eno_negated, eno_ports, Link, Port, port}

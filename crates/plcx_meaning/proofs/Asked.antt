@@ -7,7 +7,8 @@ use Rattle.plcx_types.specs.Name.{in_lower_case}
 use Rattle.plcx_funcs.specs.declared.func.Func.{Func}
 use Rattle.plcx_funcs.specs.Names.{is_function}
 use Rattle.plcx_funcs.specs.Applied.{value}
-use Rattle.plcx_meaning.specs.Base.{Path, put, is_declared, AtEdge, AtOutput, Each, Ended, Site}
+use Rattle.plcx_types.specs.Lists.{Each}
+use Rattle.plcx_meaning.specs.Base.{Path, put, is_declared, AtEdge, AtOutput, Ended, Site}
 use Rattle.plcx_meaning.specs.Layout.{Variable, variable_named}
 use Rattle.plcx_meaning.specs.Functions.{Given, group_of, can_apply, out_type}
 use Rattle.plcx_meaning.specs.Diagram.{Source, Rail, Literal, Wire, Back, Link, Operand, Storing, Stored, Enable, InputPin, InOutPin, OutputPin, ElementKind, Still, In, Out, Contact, Coil, Pass, Label, Jump, Return, Function, Call, Port, port, ports, has_edge, DiagramElement, has_jump}

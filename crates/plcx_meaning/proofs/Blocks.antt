@@ -11,7 +11,8 @@ use Rattle.plcx_std.specs.declared.kind.StdKind.{StdKind}
 use Rattle.plcx_std.specs.declared.kind.StdKind.TheVariants as kind
 use Rattle.plcx_std.specs.Pins.{Pin, pins}
 use Rattle.plcx_std.specs.State.{stepped, values}
-use Rattle.plcx_meaning.specs.Base.{Path, is_declared, Each}
+use Rattle.plcx_types.specs.Lists.{Each}
+use Rattle.plcx_meaning.specs.Base.{Path, is_declared}
 use Rattle.plcx_meaning.specs.Standard.{Leaves, state_of, put_values, called}
 use Rattle.plcx_meaning.specs.Evaluate.{DiagramState}
 use Rattle.plcx_meaning.specs.Execute.{TextState}

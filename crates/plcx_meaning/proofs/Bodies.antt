@@ -5,7 +5,8 @@ use Rattle.plcx_types.specs.declared.ty.Ty.TheVariants as ty
 use Rattle.plcx_types.specs.Name.{in_lower_case}
 use Rattle.plcx_types.specs.Value.{Value}
 use Rattle.plcx_funcs.specs.Applied.{value}
-use Rattle.plcx_meaning.specs.Base.{Each, is_true, OutOfTurns, Outcome, Ended, Stopped, then_do, spend}
+use Rattle.plcx_types.specs.Lists.{Each}
+use Rattle.plcx_meaning.specs.Base.{is_true, OutOfTurns, Outcome, Ended, Stopped, then_do, spend}
 use Rattle.plcx_meaning.specs.Tree.{Name, Binary, Less, Assign, If, While, Case, statements, arms}
 use Rattle.plcx_meaning.specs.Layout.{Variable}
 use Rattle.plcx_meaning.specs.Functions.{Answer, Given}

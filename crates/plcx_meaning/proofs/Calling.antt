@@ -6,7 +6,8 @@ use Rattle.std.proofs.lemmas.Bool.{and_parts, and_from}
 use Rattle.plcx_types.specs.declared.ty.Ty.TheVariants as ty
 use Rattle.plcx_types.specs.Name.{in_lower_case}
 use Rattle.plcx_funcs.specs.Applied.{value}
-use Rattle.plcx_meaning.specs.Base.{Path, is_declared, is_true, not_if, put, Each, Outcome, Ended, then_do, found, Site}
+use Rattle.plcx_types.specs.Lists.{Each}
+use Rattle.plcx_meaning.specs.Base.{Path, is_declared, is_true, not_if, put, Outcome, Ended, then_do, found, Site}
 use Rattle.plcx_meaning.specs.Tree.{Expression, Name, Member, Statement, Assign, If, Argument, statements}
 use Rattle.plcx_meaning.specs.Tree as tree
 use Rattle.plcx_meaning.specs.Layout.{Variable, variable_named}

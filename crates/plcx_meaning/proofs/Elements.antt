@@ -4,7 +4,8 @@ use Rattle.std.specs.List.{Contains}
 use Rattle.plcx_types.specs.declared.ty.Ty.TheVariants as ty
 use Rattle.plcx_types.specs.Name.{in_lower_case}
 use Rattle.plcx_funcs.specs.Applied.{value}
-use Rattle.plcx_meaning.specs.Base.{AtEdge, AtOutput, Each, Ended, then_do, not_if}
+use Rattle.plcx_types.specs.Lists.{Each}
+use Rattle.plcx_meaning.specs.Base.{AtEdge, AtOutput, Ended, then_do, not_if}
 use Rattle.plcx_meaning.specs.Layout.{Variable}
 use Rattle.plcx_meaning.specs.Functions.{Given}
 use Rattle.plcx_meaning.specs.Diagram.{ElementKind, Still, In, Out, Contact, Coil, Pass, Label, Jump, Return, Function, Call, Contacting, Open, Closed, RisingContact, FallingContact, Coiling, By, RisingCoil, FallingCoil, Link, Port, port, ports, has_edge, DiagramElement}

@@ -5,7 +5,8 @@ use Rattle.std.proofs.lemmas.Bool.{eq-eqb}
 use Rattle.plcx_types.specs.declared.ty.Ty.TheVariants as ty
 use Rattle.plcx_types.specs.Name.{in_lower_case}
 use Rattle.plcx_funcs.specs.Applied.{value}
-use Rattle.plcx_meaning.specs.Base.{is_true, not_of, Each, Outcome, Ended, Stopped, Stuck}
+use Rattle.plcx_types.specs.Lists.{Each}
+use Rattle.plcx_meaning.specs.Base.{is_true, not_of, Outcome, Ended, Stopped, Stuck}
 use Rattle.plcx_meaning.specs.Tree.{Not}
 use Rattle.plcx_meaning.specs.Functions.{Given}
 use Rattle.plcx_meaning.specs.Diagram.{Enable, has_eno, eno_negated, eno_ports, Link, Port, port}

@@ -7,7 +7,8 @@ use Rattle.std.proofs.lemmas.Bool.{and_parts, and_from}
 use Rattle.plcx_types.specs.declared.ty.Ty.{Ty}
 use Rattle.plcx_types.specs.Name.{in_lower_case}
 use Rattle.plcx_types.specs.Reserved.{is_own}
-use Rattle.plcx_meaning.specs.Base.{Path, is_declared, Memory, Outcome, Ended, Stopped, Stuck, Each}
+use Rattle.plcx_types.specs.Lists.{Each}
+use Rattle.plcx_meaning.specs.Base.{Path, is_declared, Memory, Outcome, Ended, Stopped, Stuck}
 use Rattle.plcx_meaning.specs.Tree.{Mark}
 use Rattle.plcx_meaning.specs.Layout.{Variable, Meaning, Elementary, Composed, meaning, Scope, is_retained, initial_at, Spelling, path_of, Leaf, is_outside, is_constant, leaf_of, is_kept, variable_leaves, leaves, layout, initial_in, IsSpelled, IsOutside, Restart, Warm, Cold, restarted}
 use Rattle.plcx_meaning.specs.Run.{Input, Event, Scan, Again, put_inputs, Halted, NoStep, TheStop, Side, told_of, side_after, begin_side, IsInput, AreEvents}

@@ -10,7 +10,8 @@ use Rattle.plcx_types.specs.declared.ty.Ty.TheVariants as ty
 use Rattle.plcx_types.specs.Name.{in_lower_case, is_next_byte}
 use Rattle.plcx_types.specs.TypeName.{type_named}
 use Rattle.plcx_std.specs.Kind.{kind_named}
-use Rattle.plcx_meaning.specs.Base.{Each, are_distinct}
+use Rattle.plcx_types.specs.Lists.{Each}
+use Rattle.plcx_meaning.specs.Base.{are_distinct}
 use Rattle.plcx_meaning.specs.Tree.{Local, Constant, Temp}
 use Rattle.plcx_meaning.specs.Layout.{initial_in, IsRetainedState, Variable, variables_of, variable_named}
 use Rattle.plcx_meaning.specs.Diagram.{Source, Port, ports, is_fed, DiagramElement, Pou, Project, block_named}

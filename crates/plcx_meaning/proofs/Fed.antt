@@ -4,7 +4,8 @@ use Rattle.std.specs.List.{list_any, Contains}
 use Rattle.std.specs.Str.{bytes_eq}
 use Rattle.std.proofs.lemmas.Bool.{or_parts, or_from}
 use Rattle.plcx_types.specs.Name.{in_lower_case}
-use Rattle.plcx_meaning.specs.Base.{Each, are_distinct}
+use Rattle.plcx_types.specs.Lists.{Each}
+use Rattle.plcx_meaning.specs.Base.{are_distinct}
 use Rattle.plcx_meaning.specs.Diagram.{Port, ports, is_fed, DiagramElement, Pou}
 use Rattle.plcx_meaning.specs.Fits.{PortsFit}
 use Rattle.plcx_meaning.proofs.Lists.{contains_first, contains_later, each_weaker, IsNew, distinct_parts, distinct_from}

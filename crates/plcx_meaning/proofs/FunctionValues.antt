@@ -19,7 +19,8 @@ use Rattle.plcx_funcs.specs.Pins.{can_have, input_class, least_inputs, most_inpu
 use Rattle.plcx_funcs.specs.Applied as funcs
 use Rattle.plcx_funcs.specs.Applied.{value, applied, takes, suits, after, both_bits, joined, agree, all_agree}
 use Rattle.plcx_funcs.proofs.Found.{found_again}
-use Rattle.plcx_meaning.specs.Base.{Path, Each, truth, and_of, or_of, not_of}
+use Rattle.plcx_types.specs.Lists.{Each}
+use Rattle.plcx_meaning.specs.Base.{Path, truth, and_of, or_of, not_of}
 use Rattle.plcx_meaning.specs.Tree.{Operator, Or, Xor, And, Equal, NotEqual, Less, Greater, LessOrEqual, GreaterOrEqual, Plus, Minus, Times, Divide, Mod, Expression, Apply, Not, Binary, expressions}
 use Rattle.plcx_meaning.specs.Functions.{Given, Faulty, group_of, all_suit, can_apply, out_type, answer, call_function}
 use Rattle.plcx_meaning.specs.Execute.{TextSetting, Frame, function_of, value_of, values_of}

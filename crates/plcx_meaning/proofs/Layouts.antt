@@ -9,7 +9,8 @@ use Rattle.plcx_types.specs.declared.ty.Ty.{Ty}
 use Rattle.plcx_types.specs.Name.{in_lower_case}
 use Rattle.plcx_types.specs.Reserved.{is_own}
 use Rattle.plcx_types.specs.TypeName.{type_named}
-use Rattle.plcx_meaning.specs.Base.{Path, is_declared, Each}
+use Rattle.plcx_types.specs.Lists.{Each}
+use Rattle.plcx_meaning.specs.Base.{Path, is_declared}
 use Rattle.plcx_meaning.specs.Tree.{Mark, Plain}
 use Rattle.plcx_meaning.specs.Layout.{Variable, variable_named, Meaning, Elementary, Composed, composed, meaning, parts, parts_of, Scope, variables_at, variable_at, initial_of, initial_at, is_marked, is_retained, Spelling, path_of, Leaf, is_outside, is_constant, leaf_of, is_kept, variable_leaves, leaves, layout, declared_leaves, Restart, Warm, Cold, begun, restarted}
 use Rattle.plcx_meaning.proofs.Lists.{each_weaker, each_from}

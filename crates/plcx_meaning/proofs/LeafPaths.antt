@@ -11,7 +11,8 @@ use Rattle.plcx_types.specs.Name.{in_lower_case}
 use Rattle.plcx_types.specs.Range.{InRange}
 use Rattle.plcx_types.specs.TypeName.{type_named}
 use Rattle.plcx_types.specs.Value.{Value}
-use Rattle.plcx_meaning.specs.Base.{Path, same_path, is_declared, Each, are_distinct}
+use Rattle.plcx_types.specs.Lists.{Each}
+use Rattle.plcx_meaning.specs.Base.{Path, same_path, is_declared, are_distinct}
 use Rattle.plcx_meaning.specs.Layout.{Variable, InitialIsTyped, variable_named, Meaning, Elementary, Composed, composed, meaning, parts, parts_of, Scope, variables_at, variable_at, initial_value, initial_of, initial_at, Spelling, path_of, Leaf, leaf_of, is_kept, variable_leaves, leaves, layout, declared_leaves, initial_in, all_apart, IsLayout, IsRetainedState}
 use Rattle.plcx_meaning.proofs.Lists.{contains_cases, each_at, each_from, each_weaker, each_flat_map, contains_map, none_passes, IsNew, distinct_parts}
 use Rattle.plcx_meaning.proofs.Fed.{passing_among}

@@ -7,7 +7,8 @@ use Rattle.plcx_std.specs.declared.pin.Role.{Role}
 use Rattle.plcx_std.specs.declared.pin.Role.TheVariants as role
 use Rattle.plcx_std.specs.Kind.{kind_named}
 use Rattle.plcx_std.specs.Pins.{pins}
-use Rattle.plcx_meaning.specs.Base.{Each, are_distinct}
+use Rattle.plcx_types.specs.Lists.{Each}
+use Rattle.plcx_meaning.specs.Base.{are_distinct}
 use Rattle.plcx_meaning.specs.Tree.{Class, Local, Input, Output, Plain, PouText}
 use Rattle.plcx_meaning.specs.Standard.{pin_declaration, has_role, pin_block, pin_blocks}
 use Rattle.plcx_meaning.specs.Layout.{Variable, InitialIsTyped, variable, block_variables, variables_of}

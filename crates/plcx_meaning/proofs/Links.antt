@@ -4,7 +4,8 @@ use Rattle.plcx_types.specs.declared.ty.Ty.{Ty}
 use Rattle.plcx_types.specs.declared.ty.Ty.TheVariants as ty
 use Rattle.plcx_types.specs.Name.{in_lower_case}
 use Rattle.plcx_funcs.specs.Applied.{value}
-use Rattle.plcx_meaning.specs.Base.{Path, put, Memory, AtOutput, Each, or_of, Ended, Site}
+use Rattle.plcx_types.specs.Lists.{Each}
+use Rattle.plcx_meaning.specs.Base.{Path, put, Memory, AtOutput, or_of, Ended, Site}
 use Rattle.plcx_meaning.specs.Base as base
 use Rattle.plcx_meaning.specs.Tree.{Expression, Binary, Or, Assign}
 use Rattle.plcx_meaning.specs.Layout.{Variable}

@@ -6,7 +6,8 @@ use Rattle.std.specs.Str.{bytes_eq}
 use Rattle.std.proofs.lemmas.Bool.{and_parts, not-true, both_ways}
 use Rattle.plcx_types.specs.Name.{in_lower_case}
 use Rattle.plcx_types.specs.Reserved.{is_own}
-use Rattle.plcx_meaning.specs.Base.{Each, all_differ}
+use Rattle.plcx_types.specs.Lists.{Each}
+use Rattle.plcx_meaning.specs.Base.{all_differ}
 use Rattle.plcx_meaning.specs.Tree.{Class, Local, Temp, Mark, Plain, Declaration, Block}
 use Rattle.plcx_meaning.specs.Layout.{Variable, variable, block_variables, variables_of, variable_named}
 use Rattle.plcx_meaning.specs.Diagram.{Pou}

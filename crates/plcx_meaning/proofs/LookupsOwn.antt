@@ -9,7 +9,8 @@ use Rattle.plcx_types.specs.declared.ty.Ty.TheVariants as ty
 use Rattle.plcx_types.specs.Name.{in_lower_case}
 use Rattle.plcx_types.specs.Reserved.{is_own}
 use Rattle.plcx_types.specs.TypeName.{type_name, type_named}
-use Rattle.plcx_meaning.specs.Base.{Each, are_distinct, Memory, AtEdge, AtOutput, same_memory}
+use Rattle.plcx_types.specs.Lists.{Each}
+use Rattle.plcx_meaning.specs.Base.{are_distinct, Memory, AtEdge, AtOutput, same_memory}
 use Rattle.plcx_meaning.specs.Tree.{Class, Local, Temp, Plain, Declaration}
 use Rattle.plcx_meaning.specs.Layout.{Variable, variable, variables_of, variable_named, World, Elementary, Composed, composed, meaning}
 use Rattle.plcx_meaning.specs.Diagram.{Port, ports, has_edge, DiagramElement, Pou, Project, has_jump}

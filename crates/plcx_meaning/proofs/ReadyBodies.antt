@@ -6,7 +6,8 @@ use Rattle.std.proofs.lemmas.Bool.{and_from, not_from_false, or_from}
 use Rattle.std.proofs.lemmas.Bool.Decides.{nat_tests}
 use Rattle.plcx_types.specs.declared.ty.Ty.TheVariants as ty
 use Rattle.plcx_types.specs.Range.{InRange}
-use Rattle.plcx_meaning.specs.Base.{Each, top, all_differ}
+use Rattle.plcx_types.specs.Lists.{Each}
+use Rattle.plcx_meaning.specs.Base.{top, all_differ}
 use Rattle.plcx_meaning.specs.Tree.{Name, Less, Statement, Assign, If, statements, arms}
 use Rattle.plcx_meaning.specs.Layout.{Scope, variables_of}
 use Rattle.plcx_meaning.specs.Diagram.{ElementKind, Still, In, Out, Contact, Coil, Pass, Label, Jump, Return, Function, Call, Port, DiagramElement, is_label, target, has_jump, Pou, Project}

@@ -13,7 +13,7 @@ use Rattle.plcx_funcs.specs.Names.{function_name, is_function}
 use Rattle.plcx_funcs.specs.Pins.{can_have, input_class, least_inputs, most_inputs}
 use Rattle.plcx_funcs.specs.Applied.{takes, suits}
 use Rattle.plcx_funcs.proofs.Found.{found_again}
-use Rattle.plcx_meaning.specs.Base.{Each}
+use Rattle.plcx_types.specs.Lists.{Each}
 use Rattle.plcx_meaning.specs.Tree.{Operator, Or, Xor, And, Equal, NotEqual, Less, Greater, LessOrEqual, GreaterOrEqual, Plus, Minus, Times, Divide, Mod, Expression, Apply, Not, Binary, expressions}
 use Rattle.plcx_meaning.specs.Layout.{Scope}
 use Rattle.plcx_meaning.specs.Functions.{group_of, all_suit, can_apply, out_type}

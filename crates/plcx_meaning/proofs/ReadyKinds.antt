@@ -5,7 +5,8 @@ use Rattle.std.specs.List.{Contains}
 use Rattle.plcx_types.specs.declared.ty.Ty.{Ty}
 use Rattle.plcx_types.specs.declared.ty.Ty.TheVariants as ty
 use Rattle.plcx_types.specs.Name.{in_lower_case}
-use Rattle.plcx_meaning.specs.Base.{Memory, AtEdge, AtOutput, Each, are_distinct, top}
+use Rattle.plcx_types.specs.Lists.{Each}
+use Rattle.plcx_meaning.specs.Base.{Memory, AtEdge, AtOutput, are_distinct, top}
 use Rattle.plcx_meaning.specs.Tree.{Expression, Name, Member, Not, Argument, Statement, Assign, If, statements}
 use Rattle.plcx_meaning.specs.Tree as tree
 use Rattle.plcx_meaning.specs.Layout.{Variable, variables_of}

@@ -7,7 +7,8 @@ use Rattle.std.proofs.lemmas.Bool.{and_parts, or_parts, or_from, not-true}
 use Rattle.plcx_types.specs.declared.ty.Ty.TheVariants as ty
 use Rattle.plcx_types.specs.Name.{in_lower_case}
 use Rattle.plcx_types.specs.Reserved.{is_own}
-use Rattle.plcx_meaning.specs.Base.{Memory, AtEdge, AtOutput, same_memory, Each, are_distinct, all_differ}
+use Rattle.plcx_types.specs.Lists.{Each}
+use Rattle.plcx_meaning.specs.Base.{Memory, AtEdge, AtOutput, same_memory, are_distinct, all_differ}
 use Rattle.plcx_meaning.specs.Tree.{Class, Local, Temp, Mark, Plain, Declaration}
 use Rattle.plcx_meaning.specs.Layout.{Variable, variable, variables_of}
 use Rattle.plcx_meaning.specs.Diagram.{Port, ports, has_edge, DiagramElement, has_jump, Pou, Project}

@@ -9,7 +9,8 @@ use Rattle.plcx_types.specs.TypeName.{type_named}
 use Rattle.plcx_types.specs.Value.{Value}
 use Rattle.plcx_types.proofs.TypeTable.{same_is}
 use Rattle.plcx_funcs.specs.Applied.{value}
-use Rattle.plcx_meaning.specs.Base.{Path, Each, Site, top}
+use Rattle.plcx_types.specs.Lists.{Each}
+use Rattle.plcx_meaning.specs.Base.{Path, Site, top}
 use Rattle.plcx_meaning.specs.Tree.{Class, Local, Input, Output, InOut, Temp, Mark, Plain, Constant, Retain, Name}
 use Rattle.plcx_meaning.specs.Layout.{Variable, variables_of, variable_named, World, Meaning, Elementary, Composed, composed, meaning, Scope, is_constant}
 use Rattle.plcx_meaning.specs.Functions.{Answer, Given, Faulty, Missing}

@@ -1,7 +1,7 @@
 -- The texts that are ready, and those that are not.
 use Rattle.std.proofs.Common.{◌≡◌, ◌≢◌, ℕ, zero, suc, true, false, List, [], ◌∷◌, Some, None, refl, sym, ap, ◌∙◌, subst, arith}
 use Rattle.plcx_funcs.specs.Applied.{value}
-use Rattle.plcx_meaning.specs.Base.{Each}
+use Rattle.plcx_types.specs.Lists.{Each}
 use Rattle.plcx_meaning.specs.Tree.{PouKind, Program, FunctionBlock, Local, InOut, Constant, Statement, Assign, Call, Case, Name, Member, Apply, PouText, no_statement, expressions, no_arm, arm}
 use Rattle.std.specs.Prelude.{pos, codes}
 use Rattle.plcx_types.specs.declared.ty.Ty.{Ty}

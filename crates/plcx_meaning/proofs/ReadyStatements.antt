@@ -5,7 +5,8 @@ use Rattle.plcx_types.specs.declared.ty.Ty.{Ty}
 use Rattle.plcx_types.specs.declared.ty.Ty.TheVariants as ty
 use Rattle.plcx_types.specs.Range.{InRange}
 use Rattle.plcx_types.proofs.TypeTable.{within_range}
-use Rattle.plcx_meaning.specs.Base.{Memory, AtOutput, Each, top}
+use Rattle.plcx_types.specs.Lists.{Each}
+use Rattle.plcx_meaning.specs.Base.{Memory, AtOutput, top}
 use Rattle.plcx_meaning.specs.Tree.{Expression, Not, Binary, Or, Statement}
 use Rattle.plcx_meaning.specs.Layout.{variables_of}
 use Rattle.plcx_meaning.specs.Diagram.{Source, Rail, Literal, Wire, Back, Link, Storing, Stored, Inverted, Set, Reset, Port, Pou, Project}

@@ -12,7 +12,8 @@ use Rattle.plcx_types.specs.Reserved.{is_conversion, is_listed, is_own, is_reser
 use Rattle.plcx_types.specs.TypeName.{type_name, type_named}
 use Rattle.plcx_std.specs.declared.kind.StdKind.{StdKind}
 use Rattle.plcx_std.specs.Kind.{kind_named}
-use Rattle.plcx_meaning.specs.Base.{Memory, AtEdge, AtOutput, Each, are_distinct, top}
+use Rattle.plcx_types.specs.Lists.{Each}
+use Rattle.plcx_meaning.specs.Base.{Memory, AtEdge, AtOutput, are_distinct, top}
 use Rattle.plcx_meaning.specs.Tree.{PouKind, Program, Class, Local, InOut, Temp, PouText}
 use Rattle.plcx_meaning.specs.Layout.{Variable, variable, block_variables, variables_of, variable_named}
 use Rattle.plcx_meaning.specs.Diagram.{Pou, Project}

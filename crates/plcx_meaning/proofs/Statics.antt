@@ -9,7 +9,8 @@ use Rattle.plcx_types.specs.Name.{in_lower_case}
 use Rattle.plcx_types.specs.Reserved.{is_own}
 use Rattle.plcx_types.specs.TypeName.{same_ty}
 use Rattle.plcx_funcs.specs.Applied.{value}
-use Rattle.plcx_meaning.specs.Base.{Path, put, is_declared, Each, Ended, Stuck, Site}
+use Rattle.plcx_types.specs.Lists.{Each}
+use Rattle.plcx_meaning.specs.Base.{Path, put, is_declared, Ended, Stuck, Site}
 use Rattle.plcx_meaning.specs.Tree.{Class, Local, Input, Output, InOut, Temp}
 use Rattle.plcx_meaning.specs.Layout.{Variable, variables_of, variable_named, parts, parts_of}
 use Rattle.plcx_meaning.specs.Functions.{Given}

@@ -7,7 +7,8 @@ use Rattle.plcx_types.specs.declared.ty.Ty.{Ty}
 use Rattle.plcx_types.specs.declared.ty.Ty.TheVariants as ty
 use Rattle.plcx_types.specs.Name.{in_lower_case}
 use Rattle.plcx_types.specs.TypeName.{type_named}
-use Rattle.plcx_meaning.specs.Base.{Each, Site, AtOutput}
+use Rattle.plcx_types.specs.Lists.{Each}
+use Rattle.plcx_meaning.specs.Base.{Site, AtOutput}
 use Rattle.plcx_meaning.specs.Tree.{Class, Local, Temp, Argument}
 use Rattle.plcx_meaning.specs.Tree as tree
 use Rattle.plcx_meaning.specs.Layout.{Variable, variables_of, variable_named, Elementary}

@@ -12,7 +12,8 @@ use Rattle.plcx_types.specs.Reserved.{is_own}
 use Rattle.plcx_std.specs.declared.kind.StdKind.{StdKind}
 use Rattle.plcx_std.specs.declared.kind.StdKind.TheVariants as kind
 use Rattle.plcx_std.specs.Kind.{kind_named}
-use Rattle.plcx_meaning.specs.Base.{Each, Memory, AtEdge, AtOutput}
+use Rattle.plcx_types.specs.Lists.{Each}
+use Rattle.plcx_meaning.specs.Base.{Memory, AtEdge, AtOutput}
 use Rattle.plcx_meaning.specs.Tree.{Local, Temp, Plain, Declaration, PouText}
 use Rattle.plcx_meaning.specs.Standard.{pin_blocks}
 use Rattle.plcx_meaning.specs.Layout.{Variable, variable, variables_of, variable_named, composed}

@@ -8,7 +8,8 @@ use Rattle.plcx_types.specs.TypeName.{type_named}
 use Rattle.plcx_types.proofs.TypeTable.{same_refl}
 use Rattle.plcx_std.specs.declared.kind.StdKind.{StdKind}
 use Rattle.plcx_std.specs.Kind.{kind_named}
-use Rattle.plcx_meaning.specs.Base.{Path, Each, Outcome, Stuck, Site, top}
+use Rattle.plcx_types.specs.Lists.{Each}
+use Rattle.plcx_meaning.specs.Base.{Path, Outcome, Stuck, Site, top}
 use Rattle.plcx_meaning.specs.Tree.{Class, Local, Input, Output, InOut, Temp, Expression, Number, Name, Member, Apply, Not, Binary, Argument, Statement, Assign, Call, If, While, Case, Statements, no_statement, statement, Arms, no_arm, arm, PouText}
 use Rattle.plcx_meaning.specs.Layout.{Variable, variables_of, variable_named, World, Elementary, Composed, composed, Scope, is_constant}
 use Rattle.plcx_meaning.specs.Diagram.{is_program}

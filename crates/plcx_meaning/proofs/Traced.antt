@@ -1,6 +1,7 @@
 -- Sides that are the same have the same traces.
 use Rattle.std.proofs.Common.{◌≡◌, ℕ, Bool, true, false, true≢false, List, [], ◌∷◌, filter, refl, sym, ap, ap₂, ◌∙◌, if◌then◌else◌}
-use Rattle.plcx_meaning.specs.Base.{is_declared, Each}
+use Rattle.plcx_types.specs.Lists.{Each}
+use Rattle.plcx_meaning.specs.Base.{is_declared}
 use Rattle.plcx_meaning.specs.Layout.{Leaf, declared_leaves, initial_in, IsOutside}
 use Rattle.plcx_meaning.specs.Run.{Event, Machine, Side, after, begin_side}
 use Rattle.plcx_meaning.specs.Same.{SameValues, SameRuns}

@@ -108,11 +108,6 @@ pub record Site : Type 0 where
 abbrev pub top : Site
 top = record { path = []; bound = λ name. [] }
 
--- each of a list
-abbrev pub Each : {A : Type 0} → (A → Type 0) → List A → Type 0
-Each P [] = Unit {0}
-Each P (x ∷ xs) = P x × Each P xs
-
 -- no name stands twice
 abbrev pub are_distinct : List (List ℕ) → Bool
 are_distinct [] = true

@@ -5,6 +5,7 @@ use Rattle.std.specs.List.{list_any, list_all, sum_by, Contains}
 use Rattle.std.specs.Str.{bytes_eq}
 use Rattle.plcx_types.specs.declared.ty.Ty.{Ty}
 use Rattle.plcx_types.specs.declared.ty.Ty.TheVariants as ty
+use Rattle.plcx_types.specs.Limits.{max_declared_name_bytes, max_variables, max_elements, max_instance_chain, max_leaves, max_parts}
 use Rattle.plcx_types.specs.Name.{in_lower_case, is_identifier, is_next_byte}
 use Rattle.plcx_types.specs.Range.{InRange}
 use Rattle.plcx_types.specs.Reserved.{is_reserved}
@@ -12,7 +13,8 @@ use Rattle.plcx_types.specs.TypeName.{type_named}
 use Rattle.plcx_std.specs.Kind.{kind_named}
 use Rattle.plcx_funcs.specs.declared.func.Func.{Func}
 use Rattle.plcx_funcs.specs.Names.{is_function}
-use Rattle.plcx_meaning.specs.Base.{Each, are_distinct, all_differ}
+use Rattle.plcx_types.specs.Lists.{Each}
+use Rattle.plcx_meaning.specs.Base.{are_distinct, all_differ}
 use Rattle.plcx_meaning.specs.Tree as tree
 use Rattle.plcx_meaning.specs.Tree.{PouKind, Program, Class, Temp, Plain, Declaration, Block}
 use Rattle.plcx_meaning.specs.Address.{AddressFits}
@@ -23,7 +25,7 @@ use Rattle.plcx_meaning.specs.Evaluate.{world_of, scope_of}
 
 -- a name that a diagram may give
 abbrev pub IsGoodName : List ℕ → Type 0
-IsGoodName name = IsTrue (is_identifier name) × (length name ≤ 64) × (is_reserved name ≡ false)
+IsGoodName name = IsTrue (is_identifier name) × (length name ≤ max_declared_name_bytes) × (is_reserved name ≡ false)
 
 -- the name is declared with the type among these variables, in a class of these
 pub record HasType (vs : List Variable) (x : List ℕ) (t : Ty) (Suits : Class → Type 0) : Type 0 where
@@ -159,9 +161,9 @@ ElementsFit project p done (e ∷ es) =
     Contains p.elements e × (is_fresh e.id done ≡ true) × KindFits (record { project = project; pou = p; done = done }) e.kind
     × ElementsFit project p (fixed_by e ++ done) es
 
--- the name of a pin is of letters, digits and `_`, which are at most 64
+-- the name of a pin is of letters, digits and `_`, and no longer than a declared name
 abbrev pub IsPin : Port → Type 0
-IsPin o = (list_all is_next_byte o.pin ≡ true) × (length o.pin ≤ 64)
+IsPin o = (list_all is_next_byte o.pin ≡ true) × (length o.pin ≤ max_declared_name_bytes)
 
 -- an element's outputs have names of their own, and those that feed back are the ones that are read so
 pub record PortsFit (p : Pou) (e : DiagramElement) : Type 0 where
@@ -211,15 +213,15 @@ pub record PouFits (project : Project) (p : Pou) : Type 0 where
   pub name : IsGoodName p.name
   pub variables : Each (VariableFits project) (variables_of p.lists)
   pub distinct : are_distinct (map (λ (v : Variable). in_lower_case v.name) (variables_of p.lists)) ≡ true
-  pub few : length (variables_of p.lists) ≤ 4096
+  pub few : length (variables_of p.lists) ≤ max_variables
   pub ids : all_differ (map (λ (e : DiagramElement). e.id) p.elements) ≡ true
-  pub elements : length p.elements ≤ 4096
+  pub elements : length p.elements ≤ max_elements
   pub ports : Each (PortsFit p) p.elements
   pub networks : Each (ElementsFit project p []) p.networks
-  pub count : length p.networks ≤ 4096
+  pub count : length p.networks ≤ max_elements
   pub in_outs : Each (InOutsFit p.kind) p.lists
-  pub leaves : length (layout (scope_of project p)) ≤ 262144
-  pub parts : parts 18 project p ≤ 2097152
+  pub leaves : length (layout (scope_of project p)) ≤ max_leaves
+  pub parts : parts 18 project p ≤ max_parts
   pub addresses : Each (λ (b : Block). Each (λ (d : Declaration). AddressFits d.address) b.declarations) p.lists
 
 -- below a POU stand at most so many levels of user blocks
@@ -228,8 +230,8 @@ PouNests zero project p = (x : List ℕ) (v : Variable) → variable_named x (va
 PouNests (suc n) project p = (x : List ℕ) (v : Variable) → variable_named x (variables_of p.lists) ≡ Some v → type_named v.ty ≡ None → kind_named v.ty ≡ None
     → (q : Pou) × (block_named v.ty project ≡ Some q) × PouNests n project q
 
--- what is promised of a project: no two POUs have one name, each fits, and none has more than 16 levels of blocks below it
+-- what is promised of a project: no two POUs have one name, each fits, and none has too many levels of blocks below it
 pub record ProjectFits (project : Project) : Type 0 where
   pub names : are_distinct (map (λ (p : Pou). in_lower_case p.name) project) ≡ true
   pub pous : Each (PouFits project) project
-  pub nests : Each (PouNests 16 project) project
+  pub nests : Each (PouNests max_instance_chain project) project

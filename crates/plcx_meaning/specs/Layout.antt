@@ -9,7 +9,8 @@ use Rattle.plcx_types.specs.Reserved.{is_own}
 use Rattle.plcx_types.specs.TypeName.{type_named}
 use Rattle.plcx_types.specs.Value.{Value}
 use Rattle.plcx_std.specs.Kind.{kind_named}
-use Rattle.plcx_meaning.specs.Base.{Path, same_path, is_declared, Each}
+use Rattle.plcx_types.specs.Lists.{Each}
+use Rattle.plcx_meaning.specs.Base.{Path, same_path, is_declared}
 use Rattle.plcx_meaning.specs.Tree.{Class, Local, Input, Output, InOut, Temp, Mark, Plain, Constant, Retain, Declaration, Block}
 use Rattle.plcx_meaning.specs.Standard.{pin_blocks}
 

@@ -4,11 +4,13 @@ use Rattle.std.specs.Prelude.{◌≡◌, ◌≢◌, ◌≤◌, ℕ, zero, suc, B
 use Rattle.std.specs.List.{sum_by}
 use Rattle.plcx_types.specs.declared.ty.Ty.{Ty}
 use Rattle.plcx_types.specs.declared.ty.Ty.TheVariants as ty
+use Rattle.plcx_types.specs.Limits.{max_instance_chain, max_text_leaves}
 use Rattle.plcx_types.specs.Name.{in_lower_case}
 use Rattle.plcx_types.specs.Reserved.{is_listed}
 use Rattle.plcx_types.specs.TypeName.{type_named}
 use Rattle.plcx_std.specs.Kind.{kind_named}
-use Rattle.plcx_meaning.specs.Base.{Each, are_distinct, all_differ}
+use Rattle.plcx_types.specs.Lists.{Each}
+use Rattle.plcx_meaning.specs.Base.{are_distinct, all_differ}
 use Rattle.plcx_meaning.specs.Tree.{PouKind, Program, Local, InOut, Constant, Expression, Name, Argument, Statement, Assign, Call, If, While, Case, Statements, no_statement, statement, Arms, no_arm, arm, PouText}
 use Rattle.plcx_meaning.specs.Layout.{Variable, InitialIsTyped, variables_of, World, Elementary, Composed, meaning, parts_of, Scope, is_kept}
 use Rattle.plcx_meaning.specs.Execute.{Instance, referent, Formal, Takes, Binds, NoFormal, formal, all_bound, block_named, world_of, scope_of}
@@ -108,8 +110,8 @@ pub record PouIsReady (unit : List PouText) (p : PouText) : Type 0 where
   pub distinct : are_distinct (map (λ (v : Variable). in_lower_case v.name) (variables_of p.blocks)) ≡ true
   pub variables : Each (VariableIsReady unit p.kind) (variables_of p.blocks)
   pub body : Each (StatementIsReady (scope_of unit p)) p.body
-  pub nests : TextNests 16 unit p
-  pub small : size 18 (world_of unit) (variables_of p.blocks) ≤ 8388608
+  pub nests : TextNests max_instance_chain unit p
+  pub small : size 18 (world_of unit) (variables_of p.blocks) ≤ max_text_leaves
 
 -- no two POUs of a unit have one name, and each is ready
 pub record IsReady (unit : List PouText) : Type 0 where

@@ -1,8 +1,10 @@
 -- What a side tells over a list of events, whichever side it is.
 use Rattle.std.specs.Prelude.{◌≡◌, ◌≤◌, ◌^◌, ℕ, ℤ, Bool, true, false, List, [], ◌∷◌, if◌then◌else◌}
 use Rattle.std.specs.List.{Contains}
+use Rattle.plcx_types.specs.Limits.{max_event_time}
 use Rattle.plcx_types.specs.Range.{InRange}
-use Rattle.plcx_meaning.specs.Base.{Path, put, Stop, Outcome, Ended, Stopped, Stuck, Each}
+use Rattle.plcx_types.specs.Lists.{Each}
+use Rattle.plcx_meaning.specs.Base.{Path, put, Stop, Outcome, Ended, Stopped, Stuck}
 use Rattle.plcx_meaning.specs.Layout.{Leaf, Restart}
 
 -- a value for one leaf before a scan
@@ -74,10 +76,10 @@ begin_side m kept = record { state = m.begin kept; halted = false; last = 0 }
 abbrev pub IsInput : List Leaf → Input → Type 0
 IsInput leaves i = (leaf : Leaf) × Contains leaves leaf × (leaf.settable ≡ true) × (leaf.path ≡ i.path) × InRange leaf.ty i.value
 
--- times lie in 0 to 2^62 and do not fall, from that of the last scan on
+-- times lie within their limit and do not fall, from that of the last scan on
 abbrev pub AreEvents : List Leaf → (last : ℕ) → List Event → Type 0
 AreEvents leaves last [] = Unit {0}
-AreEvents leaves last (Scan time inputs ∷ es) = (last ≤ time) × (time ≤ 2 ^ 62) × Each (IsInput leaves) inputs × AreEvents leaves time es
+AreEvents leaves last (Scan time inputs ∷ es) = (last ≤ time) × (time ≤ max_event_time) × Each (IsInput leaves) inputs × AreEvents leaves time es
 AreEvents leaves last (Again r ∷ es) = AreEvents leaves last es
 
 -- the events can come next to a side

@@ -1,6 +1,6 @@
 //! Laws of the definitions, each on a function of its own.
 ghost use Rattle.std.specs.Prelude.{◌≡◌, ℕ, List, true};
-ghost use Rattle.plcx_meaning.specs.Base.{Each};
+ghost use Rattle.plcx_types.specs.Lists.{Each};
 ghost use Rattle.plcx_meaning.specs.Tree.{Expression, Statements, PouText};
 ghost use Rattle.plcx_meaning.specs.Layout.{Scope, Leaf, layout, initial_in, IsLayout, IsSpelled, IsOutside, IsRetainedState};
 ghost use Rattle.plcx_meaning.specs.Run.{Input, Event, Scan, Machine, Side, after, last_after};

@@ -1,6 +1,6 @@
 -- The graph of a body is one.
 use Rattle.std.proofs.Common.{◌≡◌, ℕ, zero, suc, ◌+◌, ◌<◌, ◌≤◌, List, [], ◌∷◌, ◌++◌, length, map, take, drop, get_or, None, pos, Bool, append_assoc, refl, sym, ◌∙◌, ap, arith}
-use Rattle.plcx_model.specs.Lists.{Each}
+use Rattle.plcx_types.specs.Lists.{Each}
 use Rattle.plcx_model.specs.declared.body.BodyElement.{BodyElement}
 use Rattle.plcx_model.specs.declared.key.Key.{Key}
 use Rattle.plcx_model.specs.declared.source.Source.{Source}

@@ -1,5 +1,4 @@
 pub mod Verdict
-pub mod Lists
 pub mod Keys
 pub mod Graph
 pub mod Shown

@@ -1,6 +1,6 @@
 -- The networks of a body: classes of linked elements, in the order of their least places.
 use Rattle.std.specs.Prelude.{◌≡◌, ◌↔◌, ℕ, ◌<◌, ◌⊎◌, List, [], ◌∷◌}
-use Rattle.plcx_model.specs.Lists.{Each}
+use Rattle.plcx_types.specs.Lists.{Each}
 use Rattle.plcx_model.specs.Graph.{Graph, TakesPart, PlaceBefore, IsGraph}
 use Rattle.plcx_model.specs.Paths.{Reaches, IsLink}
 

@@ -8,7 +8,7 @@ use Rattle.plcx_types.specs.Range.{InRange}
 use Rattle.plcx_types.specs.Reserved.{is_reserved}
 use Rattle.plcx_types.specs.Value.{Value}
 use Rattle.plcx_std.specs.Pins.{pins}
-use Rattle.plcx_model.specs.Lists.{Each}
+use Rattle.plcx_types.specs.Lists.{Each}
 use Rattle.plcx_model.specs.declared.body.Connection.{Connection}
 use Rattle.plcx_model.specs.declared.body.PinIn.{PinIn}
 use Rattle.plcx_model.specs.declared.body.Kind.{Kind}

@@ -1,7 +1,7 @@
 -- Networks one after the other: they have no element in common.
 use Rattle.std.proofs.Common.{◌≡◌, ℕ, zero, suc, ◌+◌, ◌<◌, Bool, List, [], ◌∷◌, ◌++◌, length, get_or, take, refl, sym, ◌∙◌, ap, subst, arith}
 use Rattle.std.proofs.lemmas.Grind.{take_at_read}
-use Rattle.plcx_model.specs.Lists.{Each}
+use Rattle.plcx_types.specs.Lists.{Each}
 use Rattle.plcx_model.specs.Graph.{Graph, from_at}
 use Rattle.plcx_model.specs.Networks.{Listed, IsNetwork, AreNetworks, AreInOrder, ComesBefore}
 use Rattle.plcx_model.specs.Orders.{IsOrder, AreOrders}

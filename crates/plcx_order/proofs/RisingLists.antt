@@ -1,7 +1,7 @@
 -- Lists of elements, by their places.
 use Rattle.std.proofs.Common.{◌≡◌, ℕ, zero, suc, ◌+◌, ◌<◌, inl, inr, List, [], ◌∷◌, ◌++◌, length, slice_index, take, refl, sym, subst, arith}
 use Rattle.std.proofs.lemmas.Grind.{take_at_read}
-use Rattle.plcx_model.specs.Lists.{Each}
+use Rattle.plcx_types.specs.Lists.{Each}
 use Rattle.plcx_model.specs.Networks.{Listed, IsRising}
 
 pub nth_listed : (xs : List ℕ) (k : ℕ) → k < length xs → Listed xs (slice_index xs k)

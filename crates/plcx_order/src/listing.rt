@@ -1,7 +1,7 @@
 //! The order of networks, by a heap of what is ready.
 ghost use Rattle.std.specs.Prelude.{◌≡◌, ◌<◌, ◌≤◌, ◌+◌, ◌*◌, ℕ, Ok, true, false, [], length, slice_index, slice_set, IfOk, OnOk};
 ghost use Rattle.std.specs.List.{All};
-ghost use Rattle.plcx_model.specs.Lists.{Each};
+ghost use Rattle.plcx_types.specs.Lists.{Each};
 ghost use Rattle.plcx_model.specs.Graph.{elements, from_at, to_at};
 ghost use Rattle.plcx_model.specs.Shown.{graph_of};
 ghost use Rattle.plcx_model.specs.Networks.{Listed, IsNetwork, AreNetworks};

@@ -1,6 +1,6 @@
 -- What the tests' bodies are tested for.
 use Rattle.std.specs.Prelude.{◌≡◌, ℕ, ◌<◌, List}
-use Rattle.plcx_model.specs.Lists.{Each}
+use Rattle.plcx_types.specs.Lists.{Each}
 use Rattle.plcx_model.specs.declared.body.BodyElement.{BodyElement}
 use Rattle.plcx_model.specs.declared.source.Source.{Source}
 use Rattle.plcx_model.specs.Numbering.{pins_of}

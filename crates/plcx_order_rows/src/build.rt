@@ -1,6 +1,6 @@
 //! `Wires` of a list of elements and connections, where they have the form that it asks for.
 ghost use Rattle.std.specs.Prelude.{◌≡◌, ◌<◌, ◌≤◌, ◌+◌, ◌^◌, true, false, drop, length};
-ghost use Rattle.plcx_model.specs.Lists.{Each};
+ghost use Rattle.plcx_types.specs.Lists.{Each};
 ghost use Rattle.plcx_model.specs.Numbering.{HasGraph, LocalIdsDiffer, pins_of, pins_in};
 ghost use Rattle.plcx_order_rows.specs.Tested.{HasOnePin, OtherId, AreBelow};
 

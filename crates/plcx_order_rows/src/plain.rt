@@ -11,6 +11,7 @@ pub struct Tables {
     pub ends: Vec<(usize, usize)>,
 }
 
+/// The flag at a place; beyond the list none is set.
 pub fn is_set(flags: &[bool], i: usize) -> bool {
     flags.get(i).copied().unwrap_or(false)
 }

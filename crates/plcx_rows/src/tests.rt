@@ -21,6 +21,7 @@ pub struct Left {
 }
 
 impl Left {
+    /// Whether it is this status, with exactly these bytes at either sink.
     pub fn is(&self, status: Status, out: &str, err: &str) -> bool {
         self.status == status
             && self.out.as_slice() == out.as_bytes()

@@ -3,7 +3,7 @@ use Rattle.std.proofs.Common.{◌≡◌, ℕ, zero, suc, Bool, false, List, [], 
 use Rattle.std.specs.List.{list_any, flat_map, fold}
 use Rattle.std.proofs.lemmas.List.Folds.{list_any-append}
 use Rattle.std.proofs.lemmas.Option.{slice_get-map}
-use Rattle.plcx_model.specs.Lists.{Each}
+use Rattle.plcx_types.specs.Lists.{Each}
 use Rattle.plcx_model.specs.Sound.{variables_of, IsKnown, Nests}
 use Rattle.plcx_model.specs.declared.project.ListClass.{ListClass}
 use Rattle.plcx_model.specs.declared.project.VarTy.{VarTy}

@@ -1,7 +1,8 @@
 -- A file in form: its draft is in form.
 use Rattle.std.proofs.Common.{◌≡◌, ℕ, suc, ◌≤◌, Bool, true, false, cond, List, length, Option, Some, None, option_map, option_and_then, codes, refl, ap, subst, ◌∙◌, arith}
 use Rattle.std.specs.Str.{bytes_eq}
-use Rattle.plcx_model.specs.Lists.{Each}
+use Rattle.plcx_types.specs.Limits.{max_element_depth}
+use Rattle.plcx_types.specs.Lists.{Each}
 use Rattle.plcx_types.specs.Limits.{max_pous, max_variables}
 use Rattle.plcx_model.specs.declared.project.PouKind.{PouKind}
 use Rattle.plcx_model.specs.declared.project.PouKind.TheVariants as kind
@@ -166,9 +167,9 @@ draft_formed root verdict =
     let file = good_file root verdict in
     let fate = root_is root (bytes_eq (name_of root) (codes "project")) refl file in
     let good : Good (looked_at root) = record { all = file.good; start = no_counts; few = file.few } in
-    let read : Good (items 64 (Read row.Project) root) = subst (λ f. Good (items 64 f root)) fate good in
+    let read : Good (items max_element_depth (Read row.Project) root) = subst (λ f. Good (items max_element_depth f root)) fate good in
     let counted = project_counted 60 root read in
     record {
       formed = project_formed 53 root read;
-      few = omega (arith, counted, few_pous (looked_at root) file.few, ap (λ f. count is_pou (items 64 f root)) fate);
+      few = omega (arith, counted, few_pous (looked_at root) file.few, ap (λ f. count is_pou (items max_element_depth f root)) fate);
     }

@@ -1,7 +1,7 @@
 -- What the form of a file gives to its draft.
 use Rattle.std.proofs.Common.{◌≡◌, ℕ, ◌≤◌, true, false, List, [], length}
 use Rattle.std.specs.List.{sum_by}
-use Rattle.plcx_model.specs.Lists.{Each}
+use Rattle.plcx_types.specs.Lists.{Each}
 use Rattle.plcx_types.specs.Limits.{max_variables}
 use Rattle.plcx_model.specs.Sound.{AddressSuits, BodyIsSound}
 use Rattle.plcx_model.specs.declared.project.PouKind.{PouKind}

@@ -5,7 +5,7 @@ use Rattle.std.specs.Str.{bytes_eq}
 use Rattle.std.proofs.lemmas.Str.Ascii.{lowercase-uppercase, uppercase-uppercase}
 use Rattle.std.proofs.lemmas.Bool.Decides.{nat_tests}
 use Rattle.std.proofs.lemmas.Slice.Eq.{bytes_eq-Decides}
-use Rattle.plcx_model.specs.Lists.{Each}
+use Rattle.plcx_types.specs.Lists.{Each}
 use Rattle.plcx_types.proofs.Addresses.{form_is}
 use Rattle.plcx_types.specs.Address.{IsAddressForm}
 use Rattle.plcx_types.specs.Name.{in_lower_case, in_upper_case}

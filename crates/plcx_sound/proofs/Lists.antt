@@ -1,7 +1,7 @@
 -- Lists, and what no item of one breaks.
 use Rattle.std.proofs.Common.{◌≡◌, Bool, true, false, List, [], ◌∷◌, ◌++◌, map, refl, subst, ℕ, zero, suc, Some, slice_get}
 use Rattle.std.specs.List.{flat_map}
-use Rattle.plcx_model.specs.Lists.{Each}
+use Rattle.plcx_types.specs.Lists.{Each}
 use Rattle.plcx_model.specs.Verdict.{Never}
 
 pub not_true : (b : Bool) → (b ≡ true → ⊥) → b ≡ false

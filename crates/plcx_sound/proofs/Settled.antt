@@ -3,7 +3,7 @@ use Rattle.std.proofs.Common.{◌≡◌, ◌+◌, ◌≤◌, true, false, not, L
 use Rattle.std.specs.List.{flat_map}
 use Rattle.std.proofs.lemmas.List.{length-append, length-map}
 use Rattle.std.proofs.lemmas.List.Sums.{sum_by-cons}
-use Rattle.plcx_model.specs.Lists.{Each}
+use Rattle.plcx_types.specs.Lists.{Each}
 use Rattle.plcx_types.specs.Limits.{max_pous, max_instance_chain}
 use Rattle.plcx_model.specs.Verdict.{Never, Kept, Next}
 use Rattle.plcx_model.specs.Sound.{Sound, PouIsSound, ListIsSound, VariableIsSound}

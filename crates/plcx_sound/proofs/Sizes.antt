@@ -3,7 +3,7 @@ use Rattle.std.proofs.Common.{◌≡◌, ℕ, zero, suc, ◌+◌, ◌^◌, ◌�
 use Rattle.std.specs.List.{flat_map, fold, sum_by}
 use Rattle.std.proofs.lemmas.List.Sums.{sum_by-cons, sum_by-append}
 use Rattle.std.proofs.lemmas.Option.{slice_get-map}
-use Rattle.plcx_model.specs.Lists.{Each}
+use Rattle.plcx_types.specs.Lists.{Each}
 use Rattle.plcx_types.specs.Limits.{max_instance_chain, max_leaves, max_parts}
 use Rattle.plcx_model.specs.Sound.{connections_of, connections, count_at, type_leaves, list_leaves, leaves, type_parts, parts}
 use Rattle.plcx_model.specs.declared.body.Connection.{Connection}

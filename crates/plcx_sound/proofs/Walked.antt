@@ -4,7 +4,7 @@ use Rattle.std.specs.List.{sum_by, cons_option}
 use Rattle.std.specs.Str.{bytes_eq}
 use Rattle.std.proofs.lemmas.List.Sums.{sum_by-cons}
 use Rattle.std.proofs.lemmas.Slice.Eq.{bytes_eq-Decides}
-use Rattle.plcx_model.specs.Lists.{Each}
+use Rattle.plcx_types.specs.Lists.{Each}
 use Rattle.plcx_types.specs.Limits.{max_pous, max_variables, max_elements, max_connections, max_pin_connections, max_pins}
 use Rattle.plcx_model.specs.Verdict.{Never, Kept, Next}
 use Rattle.plcx_xml.specs.Look.{name_of, children_of}

@@ -4,7 +4,7 @@ use Rattle.std.specs.Prelude.{nat_lt, if◌then◌else◌}
 use Rattle.std.specs.List.{fold}
 use Rattle.std.proofs.lemmas.Bool.Decides.{nat_tests}
 use Rattle.plcx_types.specs.Value.{Value}
-use Rattle.plcx_meaning.specs.Base.{Each}
+use Rattle.plcx_types.specs.Lists.{Each}
 use Rattle.plcx_meaning.specs.Tree.{Operator, Or, And, Expression, Number, Name, Member, Apply, Not, Binary, expressions}
 use Rattle.plcx_meaning.specs.Templates.{or_text, both, chain, compared, neighbours, negation}
 use Rattle.plcx_st.specs.Print.{level, tightest}

@@ -11,7 +11,7 @@ use Rattle.plcx_types.specs.Printed as literal
 use Rattle.plcx_types.specs.Value.{Value}
 use Rattle.plcx_lex.specs.declared.token.TokenKind.TheVariants as kind
 use Rattle.plcx_lex.specs.Lexis.{IsToken}
-use Rattle.plcx_meaning.specs.Base.{Each}
+use Rattle.plcx_types.specs.Lists.{Each}
 use Rattle.plcx_meaning.specs.Tree.{PouKind, Program, FunctionBlock, Class, Local, Input, Output, InOut, Temp, Mark, Plain, Constant, Retain, Declaration, Block, Expression, Argument, Statement, Assign, Call, If, While, Case, Statements, no_statement, statement, Arms, no_arm, arm, PouText, statements}
 use Rattle.plcx_st.specs.Print.{Shape, shape, word, sign, name, in_brackets, expression_shapes, arguments_shapes, Line, line, ended, opening, closing, statement_lines, statements_lines, arms_lines, address_shapes, initial_shapes, declaration_line, class_word, mark_shapes, block_lines, pou_word, pou_end, pou_lines, unit_lines}
 use Rattle.plcx_st.specs.InRange.{IsWord, ExpressionInRange, ArgumentInRange, StatementInRange, StatementsInRange, ArmsInRange, AddressInRange, DeclarationInRange, BlockInRange, PouInRange}

@@ -9,7 +9,7 @@ use Rattle.plcx_types.specs.TypeName.{type_named}
 use Rattle.plcx_funcs.specs.declared.func.Func.{Func}
 use Rattle.plcx_funcs.specs.declared.func.Func.TheVariants as func
 use Rattle.plcx_funcs.specs.Names.{function_named}
-use Rattle.plcx_meaning.specs.Base.{Each}
+use Rattle.plcx_types.specs.Lists.{Each}
 use Rattle.plcx_meaning.specs.Tree.{Expression, Number, Name, Member, Apply, Not, Binary, Expressions, no_expression, expression, Argument, Statement, Assign, Call, If, While, Case, Statements, no_statement, statement, Arms, no_arm, arm, statements}
 use Rattle.plcx_meaning.specs.Layout.{Variable, variable_named, Elementary, Composed, composed, parts, parts_of, Scope}
 use Rattle.plcx_meaning.specs.Functions.{group_of, group_index}

@@ -14,7 +14,8 @@ use Rattle.plcx_types.specs.Value.{Value}
 use Rattle.plcx_std.specs.declared.kind.StdKind.{StdKind}
 use Rattle.plcx_std.specs.declared.kind.StdKind.TheVariants as kind
 use Rattle.plcx_std.specs.Kind.{kind_named}
-use Rattle.plcx_meaning.specs.Base.{AtEdge, AtOutput, Each}
+use Rattle.plcx_types.specs.Lists.{Each}
+use Rattle.plcx_meaning.specs.Base.{AtEdge, AtOutput}
 use Rattle.plcx_meaning.specs.Tree.{PouKind, Class, Local, Input, Output, InOut, Temp, Mark, Plain, Declaration, Block, PouText, statements}
 use Rattle.plcx_meaning.specs.Layout.{Variable, variable, block_variables, variables_of, composed}
 use Rattle.plcx_meaning.specs.Standard.{pin_blocks}

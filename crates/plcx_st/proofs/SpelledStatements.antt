@@ -7,7 +7,7 @@ use Rattle.std.proofs.lemmas.Grind.{flat_map-append}
 use Rattle.plcx_types.specs.Numeral.{number_from}
 use Rattle.plcx_lex.specs.Token.{Token}
 use Rattle.plcx_lex.specs.declared.token.TokenKind.TheVariants as kind
-use Rattle.plcx_meaning.specs.Base.{Each}
+use Rattle.plcx_types.specs.Lists.{Each}
 use Rattle.plcx_meaning.specs.Tree.{Expression, Argument, Statement, Assign, Call, If, While, Case, Statements, no_statement, statement, statements, Arms, no_arm, arm, arms}
 use Rattle.plcx_st.specs.declared.tree.Arg.{Arg}
 use Rattle.plcx_st.specs.declared.tree.Arm.{Arm}

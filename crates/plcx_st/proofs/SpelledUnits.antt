@@ -8,7 +8,7 @@ use Rattle.plcx_types.specs.Value.{Value}
 use Rattle.plcx_lex.specs.Token.{Token}
 use Rattle.plcx_lex.specs.declared.token.TokenKind.TheVariants as kind
 use Rattle.plcx_lex.specs.Number.{IsLiteral}
-use Rattle.plcx_meaning.specs.Base.{Each}
+use Rattle.plcx_types.specs.Lists.{Each}
 use Rattle.plcx_meaning.specs.Tree as meaning
 use Rattle.plcx_meaning.specs.Tree.{PouKind, Program, FunctionBlock, Class, Local, Input, Output, InOut, Temp, Mark, Plain, Constant, Retain, Declaration, Block, Statement, Statements, no_statement, statement, statements}
 use Rattle.plcx_st.specs.declared.tree.Number.{Number}

@@ -2,7 +2,7 @@
 use Rattle.std.specs.Prelude.{◌≤◌, List, Option, Some, None}
 use Rattle.plcx_types.specs.Range.{InRange}
 use Rattle.plcx_types.specs.Value.{Value}
-use Rattle.plcx_meaning.specs.Base.{Each}
+use Rattle.plcx_types.specs.Lists.{Each}
 use Rattle.plcx_meaning.specs.Tree.{Declaration, Block, Expression, Number, Name, Member, Apply, Not, Binary, Expressions, no_expression, expression, Argument, Statement, Assign, Call, If, While, Case, Statements, no_statement, statement, Arms, no_arm, arm, PouText, statements}
 
 -- the literal lies in its type

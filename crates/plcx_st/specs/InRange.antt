@@ -3,7 +3,7 @@ use Rattle.std.specs.Prelude.{◌≡◌, ◌≤◌, ℕ, List, map, Option, Some
 use Rattle.std.specs.Char.{to_ascii_uppercase}
 use Rattle.plcx_lex.specs.Lexis.{IsToken}
 use Rattle.plcx_lex.specs.declared.token.TokenKind.TheVariants as kind
-use Rattle.plcx_meaning.specs.Base.{Each}
+use Rattle.plcx_types.specs.Lists.{Each}
 use Rattle.plcx_meaning.specs.Tree.{Class, Local, Input, Output, InOut, Temp, Plain, Declaration, Block, Expression, Number, Name, Member, Apply, Not, Binary, Expressions, no_expression, expression, Argument, Statement, Assign, Call, If, While, Case, Statements, no_statement, statement, Arms, no_arm, arm, PouText, statements}
 use Rattle.plcx_st.specs.Depth.{printed_depth}
 use Rattle.plcx_st.specs.Grammar.{limit}

@@ -55,7 +55,8 @@ pulse_ended l now = if l.running && int_le (limit l.preset) (since l.start now) 
 
 -- TP: the input rises where no pulse is, and a pulse starts if its limit is above 0
 abbrev pub pulse_begun : Timer → ℤ → Timer
-pulse_begun l now = if l.input && not l.memory && not l.running then (if int_lt (pos 0) (limit l.preset) then record l { elapsed = pos 0; running = true; start = now } else record l { elapsed = pos 0 }) else l
+pulse_begun l now = if l.input && not l.memory && not l.running
+    then (if int_lt (pos 0) (limit l.preset) then record l { elapsed = pos 0; running = true; start = now } else record l { elapsed = pos 0 }) else l
 
 -- TP: Q is whether a pulse is
 abbrev pub pulse_shown : Timer → ℤ → Timer

@@ -1,6 +1,7 @@
 -- What is looked at in a file, and the first rule on its form that it breaks.
 use Rattle.std.specs.Prelude.{◌≡◌, ℕ, Bool, true, List, [], ◌∷◌, codes, Option, if◌then◌else◌}
 use Rattle.std.specs.Str.{bytes_eq}
+use Rattle.plcx_types.specs.Limits.{max_element_depth}
 use Rattle.plcx_model.specs.Verdict.{Verdict}
 use Rattle.plcx_xml.specs.Look.{name_of}
 use Rattle.plcx_xml.specs.declared.tree.Element.{Element}
@@ -18,9 +19,9 @@ use Rattle.plcx_table.specs.Limits.{breaks_limits}
 unfoldable pub root_fate : Element → Fate
 root_fate e = if bytes_eq (name_of e) (codes "project") then Read Project else Misplaced
 
--- all that is looked at, in document order: no element lies deeper than the 64th level
+-- all that is looked at, in document order: no element of a tree lies deeper
 unfoldable pub looked_at : Element → List Item
-looked_at root = items 64 (root_fate root) root
+looked_at root = items max_element_depth (root_fate root) root
 
 -- whether an element breaks a rule, in a file of this namespace and behind these elements; all are given too
 unfoldable pub breaks : List ℕ → List Item → FormatRule → List Item → Item → Bool

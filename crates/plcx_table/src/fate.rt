@@ -69,6 +69,7 @@ pub fn none_taken() -> Taken
     }
 }
 
+/// Whether a child of that seat stands before.
 pub fn is_taken(seat: Seat, taken: Taken) -> bool
     ensures { result ≡ is_taken seat taken }
 {

@@ -7,6 +7,7 @@ ghost use Rattle.plcx_table.specs.Flat.{shown_item};
 use crate::fate::{none_taken, step};
 use crate::look::same;
 use crate::row::{Fate, Row};
+use plcx_types::limits::MAX_ELEMENT_DEPTH;
 use plcx_xml::{Element, Node};
 use std::alloc::{AllocError, Global};
 
@@ -22,7 +23,7 @@ pub struct Looked<'a> {
 #[tactic(auto, unfolding(crate::specs::Walk::items))]
 fn walk<'a>(
     mut found: Vec<Looked<'a>>,
-    depth: u64,
+    depth: usize,
     fate: Fate,
     element: &'a Element,
 ) -> Result<Vec<Looked<'a>>, AllocError>
@@ -38,7 +39,7 @@ fn walk<'a>(
 #[cycle(walk)]
 fn walk_beyond<'a>(
     found: Vec<Looked<'a>>,
-    depth: u64,
+    depth: usize,
     fate: Fate,
     element: &'a Element,
 ) -> Result<Vec<Looked<'a>>, AllocError>
@@ -54,7 +55,7 @@ fn walk_beyond<'a>(
 #[tactic(auto, unfolding(crate::specs::Walk::items_below))]
 fn walk_below<'a>(
     mut found: Vec<Looked<'a>>,
-    depth: u64,
+    depth: usize,
     row: Row,
     nodes: &'a [Node],
 ) -> Result<Vec<Looked<'a>>, AllocError>
@@ -74,9 +75,6 @@ fn walk_below<'a>(
     Ok(found)
 }
 
-/// How deep a file is looked at: the deepest that one is read.
-const DEPTH: u64 = 64;
-
 #[tactic(auto, unfolding(crate::specs::Format::root_fate))]
 fn root_fate(root: &Element) -> Fate
     ensures { result ≡ root_fate root.now }
@@ -93,5 +91,5 @@ fn root_fate(root: &Element) -> Fate
 pub fn looked_at(alloc: Global, root: &Element) -> Result<Vec<Looked<'_>>, AllocError>
     ensures { IfOk result (λ all. map shown_item all.items ≡ looked_at root.now) }
 {
-    Ok(walk(Vec::new(alloc), DEPTH, root_fate(root), root)?)
+    Ok(walk(Vec::new(alloc), MAX_ELEMENT_DEPTH, root_fate(root), root)?)
 }

@@ -1,5 +1,6 @@
 -- What is said of names, types, values and literals, and the limits.
 pub mod Limits
+pub mod Lists
 pub mod Name
 pub mod IdentError
 pub mod ElementaryTypes

@@ -1,5 +1,5 @@
 use Rattle.std.proofs.Common.{take}
-use Rattle.plcx_meaning.specs.Base.{Each}
+use Rattle.plcx_types.specs.Lists.{Each}
 use Rattle.plcx_first_model.specs.Shape.{KindIsFirst}
 use Rattle.plcx_first_order.proofs.shape.are_built.Given as goal
 

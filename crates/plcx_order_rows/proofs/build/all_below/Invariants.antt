@@ -1,5 +1,5 @@
 use Rattle.std.proofs.Common.{◌≤◌, ◌<◌, drop, length}
-use Rattle.plcx_model.specs.Lists.{Each}
+use Rattle.plcx_types.specs.Lists.{Each}
 use Rattle.plcx_model.specs.declared.source.Source.{Source}
 use Rattle.plcx_model.specs.Numbering.{LocalIdsDiffer}
 use Rattle.plcx_order_rows.specs.Tested.{HasOnePin, OtherId, AreBelow}

@@ -1,6 +1,6 @@
 use Rattle.std.proofs.Common.{◌≡◌, ◌<◌, ◌≤◌, ◌-◌, length, get_or, sym, subst, arith}
 use Rattle.std.proofs.lemmas.List.{get_or_default}
-use Rattle.plcx_model.specs.Lists.{Each}
+use Rattle.plcx_types.specs.Lists.{Each}
 use Rattle.plcx_model.specs.declared.source.Source.{Source}
 use Rattle.std.proofs.Common.{drop, ◌+◌}
 use Rattle.plcx_order_rows.proofs.Steps.{each_more}

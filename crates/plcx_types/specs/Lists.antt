@@ -1,4 +1,4 @@
--- Facts of each item of a list.
+-- What holds of each item of a list.
 use Rattle.std.specs.Prelude.{List, [], ◌∷◌}
 
 -- P holds of each item
