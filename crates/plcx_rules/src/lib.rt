@@ -16,8 +16,11 @@ mod rule;
 pub use callee::Callee;
 pub use examples::{
     examples_of_blocks, examples_of_connections, examples_of_expressions, examples_of_formals,
-    examples_of_modifiers, examples_of_names, examples_of_references,
+    examples_of_modifiers, examples_of_names, examples_of_references, examples_of_sources,
 };
 pub use form::{Form, Gives, Grouping, Out, Outputs, Pin, TypeRule, WireForm};
-pub use laws::one_check_verdict;
+pub use laws::{
+    bodies_have_graphs, link_verdict_computes, no_element_breaks_a_rule, no_input_is_missing,
+    one_check_verdict, sources_are_outputs,
+};
 pub use rule::LinkRule;
