@@ -6,9 +6,12 @@ use Rattle.plcx_check.specs.declared.lib.CheckError.{CheckError}
 use Rattle.plcx_check.specs.declared.lib.CheckError.TheVariants.{Broken, NoMemory}
 use Rattle.plcx_rules.specs.CheckVerdict.{CheckVerdict}
 
+pub record IsChecked (project : Project) : Type 0 where
+  pub verdict : CheckVerdict project None
+
 pub record IsCheckedOf (project : Project) (c : Checked) : Type 0 where
   pub is : c.project ≡ project
-  pub verdict : CheckVerdict project None
+  pub checked : IsChecked c.project
 
 abbrev pub Refuses : Project → CheckError → Type 0
 Refuses project (Broken given broken) = (given ≡ project) × CheckVerdict project (Some broken)

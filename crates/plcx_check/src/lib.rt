@@ -2,6 +2,7 @@
 #![tactic(auto)]
 ghost use Rattle.std.specs.Prelude.{◌≡◌, MatchResult};
 ghost use Rattle.plcx_check.specs.Checks.{IsCheckedOf, Refuses};
+ghost use Rattle.plcx_model.specs.Sound.{Sound};
 use plcx_model::{Broken, Project};
 use std::alloc::Global;
 
@@ -27,6 +28,7 @@ pub enum CheckError {
 
 /// C
 pub fn check(alloc: Global, project: Project) -> Result<Checked, CheckError>
+    requires { Sound project.entry }
     ensures { MatchResult result (IsCheckedOf project.entry) (Refuses project.entry) }
 {
     Err(CheckError::NoMemory { project })

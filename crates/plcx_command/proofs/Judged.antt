@@ -49,7 +49,7 @@ is_element tree root is = rw (is, node.outs-Element root) tt
 
 judged-project : (bytes : List ℕ) (root : Element) (j : Judgement) → IsTreeOf bytes root → ProfileVerdict root None → IsJudgementOfProject (project_in root) j → IsJudgement bytes j
 judged-project bytes root (Accepted c) t none h =
-    record { root = root; tree = t; profile = none; stands = h.0; checks = subst (λ (p : model'.Project). CheckVerdict p None) (sym h.0) h.1 }
+    record { root = root; tree = t; profile = none; stands = h.0; checks = h.1 }
 judged-project bytes root (Broken b) t none h = InProject root t none h
 
 judged-element : (bytes : List ℕ) (root : Element) (j : Judgement) → IsTreeOf bytes root → IsJudgementOfElement root j → IsJudgement bytes j

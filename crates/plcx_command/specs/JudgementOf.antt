@@ -24,7 +24,7 @@ IsFault e (Broken b) = tree_rule e ≡ Some b
 
 -- that on a project
 abbrev pub IsJudgementOfProject : Project → Judgement → Type 0
-IsJudgementOfProject project (Accepted c) = (c.project ≡ project) × CheckVerdict project None
+IsJudgementOfProject project (Accepted c) = (c.project ≡ project) × CheckVerdict c.project None
 IsJudgementOfProject project (Broken b) = CheckVerdict project (Some b)
 
 -- that on an element

@@ -16,6 +16,7 @@ use plcx_meaning::{same_behavior, texts_are_ready};
 use plcx_model::{Broken, Place, Rule};
 use plcx_profile::{ProfileError, project_of};
 use plcx_read::one_unit;
+use plcx_sound::sound_project;
 use plcx_st::{print, read_again, texts_are_in_range};
 use plcx_types::NoMemory;
 use plcx_xml::{Node, XmlError, read_tree};
@@ -64,6 +65,7 @@ ghost use Rattle.plcx_command.specs.JudgementOf.{IsFault};
 
 /// The verdict on a project of a tree that breaks no rule.
 fn of_project(alloc: Global, project: plcx_model::Project) -> Result<Judgement, NoMemory>
+    requires { Sound project.entry }
     ensures { IfOk result (λ j. IsJudgementOfProject project.entry j) }
 {
     match check(alloc, project) {
@@ -74,11 +76,13 @@ fn of_project(alloc: Global, project: plcx_model::Project) -> Result<Judgement, 
 }
 
 ghost use Rattle.plcx_command.specs.JudgementOf.{IsJudgementOfProject};
+ghost use Rattle.plcx_model.specs.Sound.{Sound};
 
 fn of_root(alloc: Global, root: &Node) -> Result<Judgement, NoMemory>
     requires { IsElement (out-Node root.now) }
     ensures { IfOk result (λ j. IsJudgementOfTree (out-Node root.now) j) }
 {
+    sound_project();
     match project_of(alloc, root) {
         Ok(project) => of_project(alloc, project),
         Err(ProfileError::Broken(broken)) => Ok(Judgement::Broken(broken)),
