@@ -4,9 +4,9 @@ ghost use Rattle.plcx_read.specs.Reading as spec;
 ghost use Rattle.plcx_read.specs.Gives.{Gives};
 
 use crate::lexeme::Lexeme;
+use crate::lists::parted;
 use crate::token::{
-    Read, behind, expect, listed, literal_at, name_at, next, onward, room, sees, too_deep,
-    unexpected,
+    Read, behind, expect, literal_at, name_at, next, onward, room, too_deep, unexpected,
 };
 use plcx_lex::TextError;
 use plcx_st::{Expr, Op, Terminal, level};
@@ -66,21 +66,12 @@ fn arguments<'t>(
     ensures gives { Gives end (λ x. (x.0, x.1, x.2.now)) result (spec.list_of (spec.expr allowance 0) tokens.now) }
     ensures within { IfOk result (λ x. x.1 ≤ allowance) }
 {
-    let mut found = Vec::new(alloc);
-    let mut depth: usize = 0;
-    let mut rest = tokens;
-    for _turn in 0..tokens.len() + 1 {
-        let (x, at, after) = expr(alloc, end, allowance, 0, rest)?;
-        found.push(x)?;
-        depth = depth.max(at);
-        if sees(Terminal::Comma, after) {
-            rest = behind(after);
-        } else {
-            let after = expect(end, Terminal::Close, after)?;
-            return Ok((listed(found), depth, after));
-        }
-    }
-    Err(unexpected(end, rest))
+    parted!(
+        alloc,
+        end,
+        tokens,
+        |rest| expr(alloc, end, allowance, 0, rest)
+    )
 }
 
 #[cycle(expr)]
