@@ -1,9 +1,9 @@
 -- stub
 use Rattle.std.specs.Prelude.{◌≡◌, Some, None}
 use Rattle.plcx_model.specs.declared.project.Project.{Project}
-use Rattle.plcx_check.specs.declared.lib.Checked.{Checked}
-use Rattle.plcx_check.specs.declared.lib.CheckError.{CheckError}
-use Rattle.plcx_check.specs.declared.lib.CheckError.TheVariants.{Broken, NoMemory}
+use Rattle.plcx_check.specs.declared.checked.Checked.{Checked}
+use Rattle.plcx_check.specs.declared.checked.CheckError.{CheckError}
+use Rattle.plcx_check.specs.declared.checked.CheckError.TheVariants.{Broken, NoMemory}
 use Rattle.plcx_rules.specs.CheckVerdict.{CheckVerdict}
 
 pub record IsChecked (project : Project) : Type 0 where
