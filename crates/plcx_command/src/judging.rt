@@ -65,8 +65,8 @@ ghost use Rattle.plcx_command.specs.JudgementOf.{IsFault};
 
 /// The verdict on a project of a tree that breaks no rule.
 fn of_project(alloc: Global, project: plcx_model::Project) -> Result<Judgement, NoMemory>
-    requires { Sound project.entry }
-    ensures { IfOk result (λ j. IsJudgementOfProject project.entry j) }
+    requires { Sound project }
+    ensures { IfOk result (λ j. IsJudgementOfProject project j) }
 {
     match check(alloc, project) {
         Ok(checked) => Ok(Judgement::Accepted(checked)),
