@@ -10,7 +10,8 @@ use Rattle.plcx_xml.specs.declared.tree.Node.TheOpen.{Node-F}
 use Rattle.plcx_xml.specs.declared.tree.Node.TheVariants as node
 use Rattle.plcx_model.specs.declared.broken.Broken as model
 use Rattle.plcx_model.specs.declared.project.Project as model'
-use Rattle.plcx_profile.specs.Profile.{IsElement, ProfileVerdict, StandsForRoot, RefusesRoot, project_in}
+use Rattle.plcx_model.specs.Sound.{Sound}
+use Rattle.plcx_profile.specs.Profile.{IsElement, ProfileVerdict, StandsForProject, StandsForRoot, RefusesRoot, project_in}
 use Rattle.plcx_profile.specs.declared.error.ProfileError.TheVariants as error
 use Rattle.plcx_first_model.specs.Shape.{IsFirstShape}
 use Rattle.plcx_first_model.specs.declared.project.Project.{Project}
@@ -43,6 +44,10 @@ root_stands (Node-F.Element e) project j s h = OfProject s.verdict (subst (λ (p
 pub root_refused : (n : Node-F Node Element) (b : model.Broken) → IsElement n → RefusesRoot n (error.Broken b) → IsJudgementOfTree n (Broken b)
 root_refused (Node-F.Text t) b is h = absurd is
 root_refused (Node-F.Element e) b is h = OfProfile h
+
+pub root_sound : ((root : Element) (project : model'.Project) → StandsForProject root project → Sound project) → (n : Node-F Node Element) (project : model'.Project) → StandsForRoot n project → Sound project
+root_sound sound (Node-F.Text t) project s = absurd s
+root_sound sound (Node-F.Element e) project s = sound e project s
 
 pub is_element : (tree : Node) (root : Element) → tree ≡ node.Element root → IsElement (out-Node tree)
 is_element tree root is = rw (is, node.outs-Element root) tt

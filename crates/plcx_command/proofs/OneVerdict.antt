@@ -78,7 +78,7 @@ module _
     same-verdict form bytes _ _ (Refused {b} h) (InForm p k is) = absurd (not-both bytes b p h k)
     same-verdict form bytes _ _ (InOtherForm p k none) (Refused {b} h) = absurd (not-both bytes b p h k)
     same-verdict form bytes _ _ (InForm p k is) (Refused {b} h) = absurd (not-both bytes b p h k)
-    same-verdict form bytes _ _ (InOtherForm p k none) (InOtherForm q l no) = refl
+    same-verdict form bytes _ _ (InOtherForm p k none) (InOtherForm q l other) = refl
     same-verdict form bytes _ _ (InForm p k is) (InForm q l it) = refl
     same-verdict form bytes _ _ (InOtherForm p k none) (InForm q l is) = absurd (none (subst (HasForm form) (one-project bytes q p l k) is))
     same-verdict form bytes _ _ (InForm q l is) (InOtherForm p k none) = absurd (none (subst (HasForm form) (one-project bytes q p l k) is))

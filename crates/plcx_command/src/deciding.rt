@@ -3,7 +3,7 @@ ghost use Rattle.std.specs.Prelude.{◌≡◌, None, IfOk};
 ghost use Rattle.plcx_io.specs.Counts.{Rose};
 ghost use Rattle.plcx_words.specs.Command.{command_of};
 ghost use Rattle.plcx_words.specs.Says.{said_by};
-ghost use Rattle.plcx_command.specs.Answer.{usage_answer, not_built_answer, read_answer, broken_answer};
+ghost use Rattle.plcx_command.specs.Answer.{ok_answer, usage_answer, not_built_answer, read_answer, broken_answer};
 ghost use Rattle.plcx_command.specs.Says.{Says, SaysTo, AfterRead, IsProjectAnswer, checked, compiled, long_answer};
 ghost use Rattle.plcx_command.specs.ReplyOf.{answer_of};
 
@@ -32,6 +32,12 @@ fn not_built(alloc: Global) -> Result<Reply, NoMemory>
     Ok(Reply::Refusal(Refused::NotBuilt, b"plcx: not built\n".to_vec(alloc)?))
 }
 
+fn accepted(alloc: Global) -> Result<Reply, NoMemory>
+    ensures { IfOk result (λ reply. answer_of reply ≡ ok_answer) }
+{
+    Ok(Reply::Output(b"ok\n".to_vec(alloc)?))
+}
+
 fn read_fault(alloc: Global, name: &str) -> Result<Reply, NoMemory>
     ensures { IfOk result (λ reply. answer_of reply ≡ read_answer name.now) }
 {
@@ -53,7 +59,7 @@ fn checked(alloc: Global, bytes: &[u8]) -> Result<Reply, NoMemory>
     ensures { IfOk result (λ reply. checked bytes.now (answer_of reply)) }
 {
     match judge(alloc, bytes)? {
-        Judgement::Accepted(_) => Ok(Reply::Output(b"ok\n".to_vec(alloc)?)),
+        Judgement::Accepted(_) => accepted(alloc),
         Judgement::Broken(found) => broken(alloc, &found),
     }
 }

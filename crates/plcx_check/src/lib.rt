@@ -1,4 +1,0 @@
-//! STUB
-#![tactic(auto)]
-mod checked;
-pub use checked::{CheckError, Checked, check};
