@@ -24,7 +24,9 @@ use Rattle.plcx_st.specs.InRange.{UnitInRange}
 use Rattle.plcx_st.specs.Fitting.{UnitFits}
 use Rattle.plcx_xml.specs.declared.tree.Element.{Element}
 use Rattle.plcx_xml.specs.StandsForTree.{IsTreeOf}
-use Rattle.plcx_command.specs.FirstForm.{IsTextOf, IsReadBack, IsCompiled}
+use Rattle.plcx_profile.specs.Profile.{project_in}
+use Rattle.plcx_command.specs.Compiled.{IsCompiled}
+use Rattle.plcx_command.specs.FirstForm.{IsTextOf, IsReadBack}
 
 -- the one item of a list
 pub the_item : (ps : List Pou) (p q : Pou) → ps ≡ p ∷ [] → q ≡ get_or ps 0 q → q ≡ p
@@ -87,7 +89,8 @@ same-text one_plan project a b x y =
 pub one_compiled : (one_root : (bytes : List ℕ) (a b : Element) → IsTreeOf bytes a → IsTreeOf bytes b → a ≡ b) (one_plan : (p : Pou) (ns ms : List (List model.Element)) → AreNetworks p ns → AreNetworks p ms → ns ≡ ms)
     → (bytes a b : List ℕ) → IsCompiled bytes a → IsCompiled bytes b → a ≡ b
 one_compiled one_root one_plan bytes a b x y =
-    let root : x.root ≡ y.root = one_root bytes x.root y.root x.tree y.tree in
-    let found : Some x.project ≡ Some y.project = sym (rw root at x.stands) ∙ y.stands in
+    let root : x.keeps.root ≡ y.keeps.root = one_root bytes x.keeps.root y.keeps.root x.keeps.tree y.keeps.tree in
+    let file : x.file ≡ y.file = x.keeps.stands ∙ ap (λ (r : Element). project_in r) root ∙ sym y.keeps.stands in
+    let found : Some x.project ≡ Some y.project = sym (rw file at x.stands) ∙ y.stands in
     let project : x.project ≡ y.project = cc in
     same-text one_plan y.project a b (subst (λ (p : Project). IsTextOf p a) project x.text_of) y.text_of

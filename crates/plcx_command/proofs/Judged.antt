@@ -10,18 +10,23 @@ use Rattle.plcx_xml.specs.declared.tree.Node.TheOpen.{Node-F}
 use Rattle.plcx_xml.specs.declared.tree.Node.TheVariants as node
 use Rattle.plcx_model.specs.declared.broken.Broken as model
 use Rattle.plcx_model.specs.declared.project.Project as model'
-use Rattle.plcx_profile.specs.Profile.{IsElement, StandsForRoot, RefusesRoot, project_in}
+use Rattle.plcx_model.specs.Sound.{Sound}
+use Rattle.plcx_profile.specs.Profile.{IsElement, ProfileVerdict, StandsForProject, StandsForRoot, RefusesRoot, project_in}
 use Rattle.plcx_profile.specs.declared.error.ProfileError.TheVariants as error
 use Rattle.plcx_first_model.specs.Shape.{IsFirstShape}
 use Rattle.plcx_first_model.specs.declared.project.Project.{Project}
 use Rattle.plcx_first_form.specs.Form.{first_form_of}
-use Rattle.plcx_command.specs.Answer.{Answer}
-use Rattle.plcx_command.specs.FirstForm.{IsFirst}
-use Rattle.plcx_command.specs.JudgementOf.{verdict_of, IsJudgement, IsFault, IsJudgementOfProject, IsJudgementOfElement, IsJudgementOfTree}
-use Rattle.plcx_command.specs.Says.{Answers, Judged}
-use Rattle.plcx_command.specs.Verdict.{InTree, InProfile, InOtherForm, InForm}
+use Rattle.plcx_command.specs.Answer.{Answer, output, broken_answer, ok_answer}
+use Rattle.plcx_rules.specs.CheckVerdict.{CheckVerdict}
+use Rattle.plcx_command.specs.FirstForm.{Form, IsFirst, IsPlannedAs, IsTextOf}
+use Rattle.plcx_command.specs.JudgementOf.{IsJudgement, IsFault, IsJudgementOfProject, IsJudgementOfElement, OfProfile, OfProject, IsJudgementOfTree}
+use Rattle.plcx_command.specs.Says as says
+use Rattle.plcx_command.specs.Says.{Judged, checked, compiled, IsProjectAnswer}
+use Rattle.plcx_command.specs.Verdict as verdict
+use Rattle.plcx_command.specs.Verdict.{Breaks, Keeps, InTree, InProfile, InProject, Refused, InOtherForm, InForm}
 use Rattle.plcx_command.specs.declared.judging.Judgement.{Judgement}
-use Rattle.plcx_command.specs.declared.judging.Judgement.TheVariants.{Accepted, NotBuilt, Broken}
+use Rattle.plcx_command.specs.declared.judging.Judgement.TheVariants.{Accepted, Broken}
+use Rattle.plcx_command.specs.declared.judging.Accepted as code
 
 pub no_form : (project : model'.Project) → first_form_of project ≡ None → IsFirst project → ⊥
 no_form project none first = let both : None ≡ Some first.first = sym none ∙ first.stands in cc
@@ -34,32 +39,50 @@ no_shape project form stands none first =
 
 pub root_stands : (n : Node-F Node Element) (project : model'.Project) (j : Judgement) → StandsForRoot n project → IsJudgementOfProject project j → IsJudgementOfTree n j
 root_stands (Node-F.Text t) project j s h = absurd s
-root_stands (Node-F.Element e) project (Accepted a) s h = (s.verdict, rw s.is at h)
-root_stands (Node-F.Element e) project NotBuilt s h = (s.verdict, subst (λ (p : model'.Project). IsFirst p → ⊥) s.is h)
-root_stands (Node-F.Element e) project (Broken b) s h = absurd h
+root_stands (Node-F.Element e) project j s h = OfProject s.verdict (subst (λ (p : model'.Project). IsJudgementOfProject p j) s.is h)
 
 pub root_refused : (n : Node-F Node Element) (b : model.Broken) → IsElement n → RefusesRoot n (error.Broken b) → IsJudgementOfTree n (Broken b)
 root_refused (Node-F.Text t) b is h = absurd is
-root_refused (Node-F.Element e) b is h = h
+root_refused (Node-F.Element e) b is h = OfProfile h
+
+pub root_sound : ((root : Element) (project : model'.Project) → StandsForProject root project → Sound project) → (n : Node-F Node Element) (project : model'.Project) → StandsForRoot n project → Sound project
+root_sound sound (Node-F.Text t) project s = absurd s
+root_sound sound (Node-F.Element e) project s = sound e project s
 
 pub is_element : (tree : Node) (root : Element) → tree ≡ node.Element root → IsElement (out-Node tree)
 is_element tree root is = rw (is, node.outs-Element root) tt
 
+judged-project : (bytes : List ℕ) (root : Element) (j : Judgement) → IsTreeOf bytes root → ProfileVerdict root None → IsJudgementOfProject (project_in root) j → IsJudgement bytes j
+judged-project bytes root (Accepted c) t none h =
+    record { root = root; tree = t; profile = none; stands = h.0; checks = h.1 }
+judged-project bytes root (Broken b) t none h = InProject root t none h
+
 judged-element : (bytes : List ℕ) (root : Element) (j : Judgement) → IsTreeOf bytes root → IsJudgementOfElement root j → IsJudgement bytes j
-judged-element bytes root (Accepted a) t h = record {
-  verdict = InForm root t h.0 (record { first = a.project; stands = h.1.stands; shape = (h.1.planned.pou, h.1.planned.one, h.1.planned.built) });
-  kept = record { root = root; tree = t; verdict = h.0; stands = h.1.stands; planned = h.1.planned; sound = h.1.sound };
-}
-judged-element bytes root NotBuilt t h = record { verdict = InOtherForm root t h.0 h.1; kept = tt }
-judged-element bytes root (Broken b) t h = record { verdict = InProfile root t h; kept = tt }
+judged-element bytes root _ t (OfProfile h) = InProfile root t h
+judged-element bytes root j t (OfProject none h) = judged-project bytes root j t none h
 
 pub judged : (bytes : List ℕ) (tree : Node) (root : Element) (j : Judgement) → tree ≡ node.Element root → IsTreeOf bytes root → IsJudgementOfTree (out-Node tree) j → IsJudgement bytes j
 judged bytes tree root j is t h = judged-element bytes root j t (rw (is, node.outs-Element root) at h)
 
 pub faulted : (bytes : List ℕ) (e : XmlError) (j : Judgement) → Fails bytes e → IsFault e j → IsJudgement bytes j
-faulted bytes e (Accepted a) f h = absurd h
-faulted bytes e NotBuilt f h = absurd h
-faulted bytes e (Broken b) f h = record { verdict = InTree e f h; kept = tt }
+faulted bytes e (Accepted c) f h = absurd h
+faulted bytes e (Broken b) f h = InTree e f h
 
-pub answered : (bytes : List ℕ) (next : Answer → Type 0) (j : Judgement) (a : Answer) → IsJudgement bytes j → Answers next (verdict_of j) a → Judged bytes next a
-answered bytes next j a h n = record { verdict = verdict_of j; judged = h.verdict; answers = n }
+-- what is answered to bytes that are refused, and to such that are accepted
+pub refused : (form : Form) (bytes : List ℕ) (next : Answer → Type 0) (b : model.Broken) (a : Answer) → Breaks bytes b → a ≡ broken_answer b → Judged form bytes next a
+refused form bytes next b a h e = record { verdict = verdict.Broken b; judged = Refused h; answers = e }
+
+pub accepted : (bytes : List ℕ) (project : model'.Project) (a : Answer) → Keeps bytes project → a ≡ ok_answer → checked bytes a
+accepted bytes project a h e = record { verdict = verdict.Accepted; judged = InForm project h tt; answers = e }
+
+pub answered : (bytes : List ℕ) (file : model'.Project) (a : Answer) → Keeps bytes file → IsProjectAnswer file a → compiled bytes a
+answered bytes file a h (says.InForm project text stands is e first) = record {
+  verdict = verdict.Accepted;
+  judged = InForm file h first;
+  answers = record { text = text; compiled = record { file = file; keeps = h; project = project; stands = stands; text_of = is }; answer = e };
+}
+answered bytes file a h (says.InOtherForm none e) = record { verdict = verdict.NotBuilt; judged = InOtherForm file h none; answers = e }
+
+-- what a project gives, by what is found of it
+pub in_form : (file : model'.Project) (found : code.Accepted) (text : List ℕ) (a : Answer) → IsPlannedAs file found → IsTextOf found.project text → a ≡ output text → IsProjectAnswer file a
+in_form file found text a h t e = says.InForm found.project text h.stands t e (record { first = found.project; stands = h.stands; shape = (h.planned.pou, h.planned.one, h.planned.built) })

@@ -11,8 +11,9 @@ use Rattle.plcx_model.specs.declared.broken.Place.TheVariants.{Byte}
 use Rattle.plcx_model.specs.declared.project.Project as model'
 use Rattle.plcx_profile.specs.Profile.{IsBroken, ProfileVerdict, project_in}
 use Rattle.plcx_types.specs.Limits.{max_file_bytes}
-use Rattle.plcx_command.specs.FirstForm.{IsFirst}
-use Rattle.plcx_command.specs.Verdict.{Verdict, Accepted, NotBuilt, Broken, IsVerdict, InTree, InProfile, InOtherForm, InForm, FileVerdict, TooLong, Within, tree_rule}
+use Rattle.plcx_rules.specs.CheckVerdict.{CheckVerdict}
+use Rattle.plcx_command.specs.FirstForm.{Form, HasForm}
+use Rattle.plcx_command.specs.Verdict.{Verdict, Broken, Breaks, InTree, InProfile, InProject, Keeps, IsVerdict, Refused, InOtherForm, InForm, FileVerdict, TooLong, Within, tree_rule}
 
 some_same : {A : Type 0} (x y : A) → Some x ≡ Some y → x ≡ y
 some_same x y h = cc
@@ -30,6 +31,7 @@ module _
     (no_fault : (bytes : List ℕ) (e : XmlError) (root : Element) → e ≢ xml.NoMemory → Fails bytes e → IsTreeOf bytes root → ⊥)
     (one_root : (bytes : List ℕ) (a b : Element) → IsTreeOf bytes a → IsTreeOf bytes b → a ≡ b)
     (one_profile : (root : Element) (v w : Option (ℕ × ℕ)) → ProfileVerdict root v → ProfileVerdict root w → v ≡ w)
+    (one_check : (project : model'.Project) (v w : Option model.Broken) → CheckVerdict project v → CheckVerdict project w → v ≡ w)
   where
     same-broken : (root : Element) (b c : model.Broken) → IsBroken root b → IsBroken root c → b ≡ c
     same-broken root b c (n, at, h) (m, at', k) =
@@ -41,37 +43,48 @@ module _
     no-broken : (root : Element) (b : model.Broken) → IsBroken root b → ProfileVerdict root None → ⊥
     no-broken root b (n, at, h) none = let same = one_profile root (Some (b.rule.0, n)) None h none in cc
 
-    same-verdict : (bytes : List ℕ) (v w : Verdict) → IsVerdict bytes v → IsVerdict bytes w → v ≡ w
-    same-verdict bytes v w (InTree e {b} f r) (InTree e' {b = c} f' r') =
+    one-broken : (bytes : List ℕ) (b c : model.Broken) → Breaks bytes b → Breaks bytes c → b ≡ c
+    one-broken bytes b c (InTree e f r) (InTree e' f' r') =
         let same : e ≡ e' = one_fault bytes e e' (no-memory e b r) (no-memory e' c r') f f' in
-        let rules : Some b ≡ Some c = sym r ∙ ap tree_rule same ∙ r' in
-        cc
-    same-verdict bytes v w (InTree e {b} f r) (InProfile root t h) = absurd (no_fault bytes e root (no-memory e b r) f t)
-    same-verdict bytes v w (InTree e {b} f r) (InOtherForm root t h n) = absurd (no_fault bytes e root (no-memory e b r) f t)
-    same-verdict bytes v w (InTree e {b} f r) (InForm root t h n) = absurd (no_fault bytes e root (no-memory e b r) f t)
-    same-verdict bytes v w (InProfile root t h) (InTree e {b} f r) = absurd (no_fault bytes e root (no-memory e b r) f t)
-    same-verdict bytes v w (InOtherForm root t h n) (InTree e {b} f r) = absurd (no_fault bytes e root (no-memory e b r) f t)
-    same-verdict bytes v w (InForm root t h n) (InTree e {b} f r) = absurd (no_fault bytes e root (no-memory e b r) f t)
-    same-verdict bytes v w (InProfile root {b} t h) (InProfile root' {b = c} t' h') =
-        let same : root ≡ root' = one_root bytes root root' t t' in
-        ap Broken (same-broken root' b c (subst (λ (r : Element). IsBroken r b) same h) h')
-    same-verdict bytes v w (InProfile root {b} t h) (InOtherForm root' t' h' n) =
-        absurd (no-broken root' b (subst (λ (r : Element). IsBroken r b) (one_root bytes root root' t t') h) h')
-    same-verdict bytes v w (InProfile root {b} t h) (InForm root' t' h' n) =
-        absurd (no-broken root' b (subst (λ (r : Element). IsBroken r b) (one_root bytes root root' t t') h) h')
-    same-verdict bytes v w (InOtherForm root' t' h' n) (InProfile root {b} t h) =
-        absurd (no-broken root' b (subst (λ (r : Element). IsBroken r b) (one_root bytes root root' t t') h) h')
-    same-verdict bytes v w (InForm root' t' h' n) (InProfile root {b} t h) =
-        absurd (no-broken root' b (subst (λ (r : Element). IsBroken r b) (one_root bytes root root' t t') h) h')
-    same-verdict bytes v w (InOtherForm r t h n) (InOtherForm r' t' h' n') = refl
-    same-verdict bytes v w (InForm r t h n) (InForm r' t' h' n') = refl
-    same-verdict bytes v w (InOtherForm root t h none) (InForm root' t' h' first) =
-        absurd (none (subst (λ (r : Element). IsFirst (project_in r)) (one_root bytes root' root t' t) first))
-    same-verdict bytes v w (InForm root' t' h' first) (InOtherForm root t h none) =
-        absurd (none (subst (λ (r : Element). IsFirst (project_in r)) (one_root bytes root' root t' t) first))
+        some_same b c (sym r ∙ ap tree_rule same ∙ r')
+    one-broken bytes b c (InTree e f r) (InProfile root t h) = absurd (no_fault bytes e root (no-memory e b r) f t)
+    one-broken bytes b c (InTree e f r) (InProject root t none h) = absurd (no_fault bytes e root (no-memory e b r) f t)
+    one-broken bytes b c (InProfile root t h) (InTree e f r) = absurd (no_fault bytes e root (no-memory e c r) f t)
+    one-broken bytes b c (InProject root t none h) (InTree e f r) = absurd (no_fault bytes e root (no-memory e c r) f t)
+    one-broken bytes b c (InProfile root t h) (InProfile root' t' h') =
+        same-broken root' b c (subst (λ (r : Element). IsBroken r b) (one_root bytes root root' t t') h) h'
+    one-broken bytes b c (InProfile root t h) (InProject root' t' none h') =
+        absurd (no-broken root' b (subst (λ (r : Element). IsBroken r b) (one_root bytes root root' t t') h) none)
+    one-broken bytes b c (InProject root' t' none h') (InProfile root t h) =
+        absurd (no-broken root' c (subst (λ (r : Element). IsBroken r c) (one_root bytes root root' t t') h) none)
+    one-broken bytes b c (InProject root t none h) (InProject root' t' none' h') =
+        let found : CheckVerdict (project_in root') (Some b) = subst (λ (r : Element). CheckVerdict (project_in r) (Some b)) (one_root bytes root root' t t') h in
+        some_same b c (one_check (project_in root') (Some b) (Some c) found h')
 
-    pub same-file : (bytes : List ℕ) (v w : Verdict) → FileVerdict bytes v → FileVerdict bytes w → v ≡ w
-    same-file bytes v w (TooLong l) (TooLong l') = refl
-    same-file bytes v w (TooLong l) (Within k h) = absurd (omega arith)
-    same-file bytes v w (Within k h) (TooLong l) = absurd (omega arith)
-    same-file bytes v w (Within k h) (Within k' h') = same-verdict bytes v w h h'
+    not-both : (bytes : List ℕ) (b : model.Broken) (p : model'.Project) → Breaks bytes b → Keeps bytes p → ⊥
+    not-both bytes b p (InTree e f r) k = no_fault bytes e k.root (no-memory e b r) f k.tree
+    not-both bytes b p (InProfile root t h) k = no-broken k.root b (subst (λ (r : Element). IsBroken r b) (one_root bytes root k.root t k.tree) h) k.profile
+    not-both bytes b p (InProject root t none h) k =
+        let same : project_in root ≡ p = ap (λ (r : Element). project_in r) (one_root bytes root k.root t k.tree) ∙ sym k.stands in
+        let both : Some b ≡ None = one_check p (Some b) None (subst (λ (q : model'.Project). CheckVerdict q (Some b)) same h) k.checks in
+        cc
+
+    pub one-project : (bytes : List ℕ) (p q : model'.Project) → Keeps bytes p → Keeps bytes q → p ≡ q
+    one-project bytes p q k l = k.stands ∙ ap (λ (r : Element). project_in r) (one_root bytes k.root l.root k.tree l.tree) ∙ sym l.stands
+
+    same-verdict : (form : Form) (bytes : List ℕ) (v w : Verdict) → IsVerdict form bytes v → IsVerdict form bytes w → v ≡ w
+    same-verdict form bytes _ _ (Refused {b} h) (Refused {b = c} k) = ap Broken (one-broken bytes b c h k)
+    same-verdict form bytes _ _ (Refused {b} h) (InOtherForm p k none) = absurd (not-both bytes b p h k)
+    same-verdict form bytes _ _ (Refused {b} h) (InForm p k is) = absurd (not-both bytes b p h k)
+    same-verdict form bytes _ _ (InOtherForm p k none) (Refused {b} h) = absurd (not-both bytes b p h k)
+    same-verdict form bytes _ _ (InForm p k is) (Refused {b} h) = absurd (not-both bytes b p h k)
+    same-verdict form bytes _ _ (InOtherForm p k none) (InOtherForm q l other) = refl
+    same-verdict form bytes _ _ (InForm p k is) (InForm q l it) = refl
+    same-verdict form bytes _ _ (InOtherForm p k none) (InForm q l is) = absurd (none (subst (HasForm form) (one-project bytes q p l k) is))
+    same-verdict form bytes _ _ (InForm q l is) (InOtherForm p k none) = absurd (none (subst (HasForm form) (one-project bytes q p l k) is))
+
+    pub same-file : (form : Form) (bytes : List ℕ) (v w : Verdict) → FileVerdict form bytes v → FileVerdict form bytes w → v ≡ w
+    same-file form bytes v w (TooLong l) (TooLong l') = refl
+    same-file form bytes v w (TooLong l) (Within k h) = absurd (omega arith)
+    same-file form bytes v w (Within k h) (TooLong l) = absurd (omega arith)
+    same-file form bytes v w (Within k h) (Within k' h') = same-verdict form bytes v w h h'

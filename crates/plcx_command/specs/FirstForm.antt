@@ -1,14 +1,11 @@
 -- Which projects are compiled by now, and which text each has.
-use Rattle.std.specs.Prelude.{◌≡◌, ◌≤◌, ℕ, List, [], ◌∷◌, Some, None}
+use Rattle.std.specs.Prelude.{◌≡◌, ◌≤◌, ℕ, List, [], ◌∷◌, Option, Some, None, ⊤}
 use Rattle.plcx_types.specs.Lists.{Each}
 use Rattle.plcx_meaning.specs.Diagram as diagram
 use Rattle.plcx_meaning.specs.Templates.{unit_of}
 use Rattle.plcx_meaning.specs.Ready.{IsReady}
 use Rattle.plcx_meaning.specs.Same.{Behaves}
-use Rattle.plcx_xml.specs.declared.tree.Element.{Element}
-use Rattle.plcx_xml.specs.StandsForTree.{IsTreeOf}
 use Rattle.plcx_model.specs.declared.project.Project as model
-use Rattle.plcx_profile.specs.Profile.{ProfileVerdict, project_in}
 use Rattle.plcx_first_model.specs.declared.project.Project.{Project}
 use Rattle.plcx_first_model.specs.declared.project.Pou.{Pou}
 use Rattle.plcx_first_model.specs.declared.project.Element as element
@@ -25,11 +22,20 @@ use Rattle.plcx_st.specs.Stands.{StandsFor}
 use Rattle.plcx_st.specs.Meant.{meant}
 use Rattle.plcx_st.specs.Print.{printed}
 
--- a project that is compiled by now
+-- the form of projects that a command takes: `check` takes any, and `compile` the first form by now
+pub data Form : Type 0 where
+  any_form : Form
+  first_form : Form
+
+-- a project in the first form
 pub record IsFirst (project : model.Project) : Type 0 where
   pub first : Project
   pub stands : first_form_of project ≡ Some first
   pub shape : IsFirstShape first
+
+abbrev pub HasForm : Form → model.Project → Type 0
+HasForm any_form project = ⊤
+HasForm first_form project = IsFirst project
 
 -- Read back from its bytes, the text is exactly one unit, which is ready and does what the diagrams do.
 pub record IsReadBack (text : List ℕ) (diagrams : diagram.Project) : Type 0 where
@@ -51,20 +57,13 @@ pub record IsTextOf (project : Project) (text : List ℕ) : Type 0 where
   pub text_is : text ≡ printed (unit_of (diagram_of pou networks ∷ []))
   pub read_back : IsReadBack text (diagram_of pou networks ∷ [])
 
--- The bytes stand for a tree that breaks no rule, and this is the text of its project.
-pub record IsCompiled (bytes text : List ℕ) : Type 0 where
-  pub root : Element
-  pub tree : IsTreeOf bytes root
-  pub verdict : ProfileVerdict root None
-  pub project : Project
-  pub stands : first_form_of (project_in root) ≡ Some project
-  pub text_of : IsTextOf project text
-
--- What is known of a file that is accepted: its project in the first form, and the order of evaluation.
-pub record IsAccepted (bytes : List ℕ) (a : Accepted) : Type 0 where
-  pub root : Element
-  pub tree : IsTreeOf bytes root
-  pub verdict : ProfileVerdict root None
-  pub stands : first_form_of (project_in root) ≡ Some a.project
+-- What is known of a project that is compiled: its first form, and the order of evaluation.
+pub record IsPlannedAs (project : model.Project) (a : Accepted) : Type 0 where
+  pub stands : first_form_of project ≡ Some a.project
   pub planned : IsPlanned a.project a.plan
   pub sound : Each IsSound a.project.pous
+
+-- what is found of a project: its first form, or that it has none
+abbrev pub IsFound : model.Project → Option Accepted → Type 0
+IsFound project (Some a) = IsPlannedAs project a
+IsFound project None = IsFirst project → ⊥

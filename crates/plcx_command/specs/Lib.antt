@@ -1,4 +1,5 @@
 pub mod Answer
+pub mod Compiled
 pub mod Ends
 pub mod FirstForm
 pub mod Headline

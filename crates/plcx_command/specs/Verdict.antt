@@ -1,4 +1,4 @@
--- What is said of a file before anything is made of it.
+-- The verdict on a file.
 use Rattle.std.specs.Prelude.{◌≡◌, ◌≤◌, ◌<◌, ℕ, List, length, Option, Some, None}
 use Rattle.plcx_types.specs.Limits.{max_file_bytes}
 use Rattle.plcx_xml.specs.Faults.{Fails}
@@ -8,12 +8,14 @@ use Rattle.plcx_xml.specs.declared.error.XmlError.TheVariants as xml
 use Rattle.plcx_xml.specs.declared.tree.Element.{Element}
 use Rattle.plcx_model.specs.declared.broken.Broken as model
 use Rattle.plcx_model.specs.declared.broken.Place.TheVariants.{Byte}
+use Rattle.plcx_model.specs.declared.project.Project.{Project}
 use Rattle.plcx_profile.specs.Profile.{IsBroken, ProfileVerdict, project_in}
-use Rattle.plcx_command.specs.FirstForm.{IsFirst}
+use Rattle.plcx_rules.specs.CheckVerdict.{CheckVerdict}
+use Rattle.plcx_command.specs.FirstForm.{Form, HasForm}
 
 pub data Verdict : Type 0 where
   Accepted : Verdict
-  -- no rule is broken as far as rules are tested by now, and the file has not the form that is compiled
+  -- no rule is broken, and the project has not the form that the command takes by now
   NotBuilt : Verdict
   -- the first rule that is broken, and its place
   Broken : model.Broken → Verdict
@@ -30,14 +32,27 @@ tree_rule (xml.Nesting at) = Some (at_byte 3 at)
 tree_rule (xml.TooDeep at) = Some (at_byte 7 at)
 tree_rule xml.NoMemory = None
 
--- The verdict on bytes: they stand for no tree; or their tree breaks a rule; or it breaks none.
-pub data IsVerdict (bytes : List ℕ) : Verdict → Type 0 where
-  InTree : (e : XmlError) {b : model.Broken} → Fails bytes e → tree_rule e ≡ Some b → IsVerdict bytes (Broken b)
-  InProfile : (root : Element) {b : model.Broken} → IsTreeOf bytes root → IsBroken root b → IsVerdict bytes (Broken b)
-  InOtherForm : (root : Element) → IsTreeOf bytes root → ProfileVerdict root None → (IsFirst (project_in root) → ⊥) → IsVerdict bytes NotBuilt
-  InForm : (root : Element) → IsTreeOf bytes root → ProfileVerdict root None → IsFirst (project_in root) → IsVerdict bytes Accepted
+-- The first rule that bytes break: they stand for no tree; or their tree breaks a rule from 4 to 16; or its project one from 20 to 36.
+pub data Breaks (bytes : List ℕ) : model.Broken → Type 0 where
+  InTree : (e : XmlError) {b : model.Broken} → Fails bytes e → tree_rule e ≡ Some b → Breaks bytes b
+  InProfile : (root : Element) {b : model.Broken} → IsTreeOf bytes root → IsBroken root b → Breaks bytes b
+  InProject : (root : Element) {b : model.Broken} → IsTreeOf bytes root → ProfileVerdict root None → CheckVerdict (project_in root) (Some b) → Breaks bytes b
+
+-- Bytes break no rule, and stand for this project.
+pub record Keeps (bytes : List ℕ) (project : Project) : Type 0 where
+  pub root : Element
+  pub tree : IsTreeOf bytes root
+  pub profile : ProfileVerdict root None
+  pub stands : project ≡ project_in root
+  pub checks : CheckVerdict project None
+
+-- The verdict on bytes, for a command that takes projects of a form.
+pub data IsVerdict (form : Form) (bytes : List ℕ) : Verdict → Type 0 where
+  Refused : {b : model.Broken} → Breaks bytes b → IsVerdict form bytes (Broken b)
+  InOtherForm : (project : Project) → Keeps bytes project → (HasForm form project → ⊥) → IsVerdict form bytes NotBuilt
+  InForm : (project : Project) → Keeps bytes project → HasForm form project → IsVerdict form bytes Accepted
 
 -- The verdict on a file, whose length is looked at first.
-pub data FileVerdict (bytes : List ℕ) : Verdict → Type 0 where
-  TooLong : max_file_bytes < length bytes → FileVerdict bytes (Broken (at_byte 7 max_file_bytes))
-  Within : {v : Verdict} → length bytes ≤ max_file_bytes → IsVerdict bytes v → FileVerdict bytes v
+pub data FileVerdict (form : Form) (bytes : List ℕ) : Verdict → Type 0 where
+  TooLong : max_file_bytes < length bytes → FileVerdict form bytes (Broken (at_byte 7 max_file_bytes))
+  Within : {v : Verdict} → length bytes ≤ max_file_bytes → IsVerdict form bytes v → FileVerdict form bytes v

@@ -3,16 +3,16 @@ ghost use Rattle.std.specs.Prelude.{◌≡◌, None, IfOk};
 ghost use Rattle.plcx_io.specs.Counts.{Rose};
 ghost use Rattle.plcx_words.specs.Command.{command_of};
 ghost use Rattle.plcx_words.specs.Says.{said_by};
-ghost use Rattle.plcx_command.specs.Answer.{usage_answer, not_built_answer, read_answer, broken_answer};
-ghost use Rattle.plcx_command.specs.Says.{Says, SaysTo, AfterRead, checked, compiled, long_answer};
+ghost use Rattle.plcx_command.specs.Answer.{ok_answer, usage_answer, not_built_answer, read_answer, broken_answer};
+ghost use Rattle.plcx_command.specs.Says.{Says, SaysTo, AfterRead, IsProjectAnswer, checked, compiled, long_answer};
 ghost use Rattle.plcx_command.specs.ReplyOf.{answer_of};
 
-use crate::judging::{Judgement, at_byte, judge, text_of};
+use crate::judging::{Judgement, at_byte, first_of, judge, text_of};
 use crate::line::broken_line;
 use crate::reply::Reply;
 use crate::status::Refused;
 use plcx_io::{Desk, LoadError, load};
-use plcx_model::Broken;
+use plcx_model::{Broken, Project};
 use plcx_types::NoMemory;
 use plcx_types::limits::MAX_FILE_BYTES;
 use plcx_words::{Command, Words, WordsError, command_of};
@@ -30,6 +30,12 @@ fn not_built(alloc: Global) -> Result<Reply, NoMemory>
     ensures { IfOk result (λ reply. answer_of reply ≡ not_built_answer) }
 {
     Ok(Reply::Refusal(Refused::NotBuilt, b"plcx: not built\n".to_vec(alloc)?))
+}
+
+fn accepted(alloc: Global) -> Result<Reply, NoMemory>
+    ensures { IfOk result (λ reply. answer_of reply ≡ ok_answer) }
+{
+    Ok(Reply::Output(b"ok\n".to_vec(alloc)?))
 }
 
 fn read_fault(alloc: Global, name: &str) -> Result<Reply, NoMemory>
@@ -53,9 +59,18 @@ fn checked(alloc: Global, bytes: &[u8]) -> Result<Reply, NoMemory>
     ensures { IfOk result (λ reply. checked bytes.now (answer_of reply)) }
 {
     match judge(alloc, bytes)? {
-        Judgement::Accepted(_) => Ok(Reply::Output(b"ok\n".to_vec(alloc)?)),
-        Judgement::NotBuilt => not_built(alloc),
+        Judgement::Accepted(_) => accepted(alloc),
         Judgement::Broken(found) => broken(alloc, &found),
+    }
+}
+
+/// What a project gives that breaks no rule.
+fn compiled_project(alloc: Global, project: &Project) -> Result<Reply, NoMemory>
+    ensures { IfOk result (λ reply. IsProjectAnswer project.now (answer_of reply)) }
+{
+    match first_of(alloc, project)? {
+        Some(accepted) => Ok(Reply::Output(text_of(alloc, &accepted)?)),
+        None => not_built(alloc),
     }
 }
 
@@ -64,8 +79,7 @@ fn compiled(alloc: Global, bytes: &[u8]) -> Result<Reply, NoMemory>
     ensures { IfOk result (λ reply. compiled bytes.now (answer_of reply)) }
 {
     match judge(alloc, bytes)? {
-        Judgement::Accepted(accepted) => Ok(Reply::Output(text_of(alloc, &accepted)?)),
-        Judgement::NotBuilt => not_built(alloc),
+        Judgement::Accepted(checked) => compiled_project(alloc, checked.project()),
         Judgement::Broken(found) => broken(alloc, &found),
     }
 }

@@ -1,12 +1,13 @@
-//! The verdict on a file, and the text of one that is accepted.
+//! The verdict on a file, and the text of one that is compiled.
 ghost use Rattle.std.specs.Prelude.{◌≡◌, IfOk, MatchResult};
 ghost use Rattle.plcx_types.specs.Lists.{Each};
 ghost use Rattle.plcx_xml.specs.StandsForTree.{IsTreeOf};
 ghost use Rattle.plcx_first_model.specs.Sound.{IsSound};
 ghost use Rattle.plcx_first_order.specs.Planned.{IsPlanned};
-ghost use Rattle.plcx_command.specs.FirstForm.{IsTextOf};
+ghost use Rattle.plcx_command.specs.FirstForm.{IsTextOf, IsFound};
 ghost use Rattle.plcx_command.specs.JudgementOf.{IsJudgement, IsJudgementOfTree};
 
+use plcx_check::{CheckError, Checked, check};
 use plcx_first_form::{FormError, first_form, sound_forms};
 use plcx_first_model::{Plan, Project, diagrams_fit};
 use plcx_first_order::{PlanError, plan};
@@ -15,12 +16,13 @@ use plcx_meaning::{same_behavior, texts_are_ready};
 use plcx_model::{Broken, Place, Rule};
 use plcx_profile::{ProfileError, project_of};
 use plcx_read::one_unit;
+use plcx_sound::sound_project;
 use plcx_st::{print, read_again, texts_are_in_range};
 use plcx_types::NoMemory;
 use plcx_xml::{Node, XmlError, read_tree};
 use std::alloc::Global;
 
-/// A project that is accepted, with the order of its evaluation.
+/// A project that is compiled, with the order of its evaluation.
 #[derive(Drop)]
 pub struct Accepted {
     pub project: Project,
@@ -30,9 +32,8 @@ pub struct Accepted {
 /// The verdict on a file.
 #[derive(Drop)]
 pub enum Judgement {
-    Accepted(Accepted),
-    /// No rule is broken, as far as rules are tested by now, and the file has not the form that is compiled.
-    NotBuilt,
+    /// No rule is broken.
+    Accepted(Checked),
     Broken(Broken),
 }
 
@@ -62,34 +63,28 @@ fn of_tree(fault: XmlError) -> Result<Judgement, NoMemory>
 
 ghost use Rattle.plcx_command.specs.JudgementOf.{IsFault};
 
-/// The verdict on a project that breaks no rule by now.
-fn of_project(alloc: Global, project: &plcx_model::Project) -> Result<Judgement, NoMemory>
-    ensures { IfOk result (λ j. IsJudgementOfProject project.now j) }
+/// The verdict on a project of a tree that breaks no rule.
+fn of_project(alloc: Global, project: plcx_model::Project) -> Result<Judgement, NoMemory>
+    requires { Sound project }
+    ensures { IfOk result (λ j. IsJudgementOfProject project j) }
 {
-    sound_forms();
-    let first = match first_form(alloc, project) {
-        Ok(first) => first,
-        Err(FormError::NotBuilt) => return Ok(Judgement::NotBuilt),
-        Err(FormError::NoMemory) => return Err(NoMemory),
-    };
-    match plan(alloc, &first) {
-        Ok(plan) => Ok(Judgement::Accepted(Accepted {
-            project: first,
-            plan,
-        })),
-        Err(PlanError::NotBuilt) => Ok(Judgement::NotBuilt),
-        Err(PlanError::NoMemory) => Err(NoMemory),
+    match check(alloc, project) {
+        Ok(checked) => Ok(Judgement::Accepted(checked)),
+        Err(CheckError::Broken { broken, .. }) => Ok(Judgement::Broken(broken)),
+        Err(CheckError::NoMemory { .. }) => Err(NoMemory),
     }
 }
 
 ghost use Rattle.plcx_command.specs.JudgementOf.{IsJudgementOfProject};
+ghost use Rattle.plcx_model.specs.Sound.{Sound};
 
 fn of_root(alloc: Global, root: &Node) -> Result<Judgement, NoMemory>
     requires { IsElement (out-Node root.now) }
     ensures { IfOk result (λ j. IsJudgementOfTree (out-Node root.now) j) }
 {
+    sound_project();
     match project_of(alloc, root) {
-        Ok(project) => of_project(alloc, &project),
+        Ok(project) => of_project(alloc, project),
         Err(ProfileError::Broken(broken)) => Ok(Judgement::Broken(broken)),
         Err(ProfileError::NoMemory) => Err(NoMemory),
     }
@@ -105,6 +100,26 @@ pub fn judge(alloc: Global, bytes: &[u8]) -> Result<Judgement, NoMemory>
     match read_tree(alloc, bytes) {
         Ok(root) => of_root(alloc, &root),
         Err(fault) => of_tree(fault),
+    }
+}
+
+/// The first form of a project with the order of its evaluation, or None where it has another form.
+pub fn first_of(alloc: Global, project: &plcx_model::Project) -> Result<Option<Accepted>, NoMemory>
+    ensures { IfOk result (λ found. IsFound project.now found) }
+{
+    sound_forms();
+    let first = match first_form(alloc, project) {
+        Ok(first) => first,
+        Err(FormError::NotBuilt) => return Ok(None),
+        Err(FormError::NoMemory) => return Err(NoMemory),
+    };
+    match plan(alloc, &first) {
+        Ok(plan) => Ok(Some(Accepted {
+            project: first,
+            plan,
+        })),
+        Err(PlanError::NotBuilt) => Ok(None),
+        Err(PlanError::NoMemory) => Err(NoMemory),
     }
 }
 

@@ -1,20 +1,23 @@
 //! Laws of the definitions that the top call's clauses cite.
 ghost use Rattle.std.specs.Prelude.{◌≡◌, ℕ, List};
-ghost use Rattle.plcx_command.specs.FirstForm.{IsCompiled};
+ghost use Rattle.plcx_command.specs.Compiled.{IsCompiled};
+ghost use Rattle.plcx_command.specs.FirstForm.{Form};
 ghost use Rattle.plcx_command.specs.Verdict.{Verdict, FileVerdict};
 
 use plcx_first_order::one_plan;
 use plcx_profile::one_profile_verdict;
+use plcx_rules::one_check_verdict;
 use plcx_xml::{no_tree, one_fault, one_tree};
 
 /// A file has one verdict.
 pub fn one_verdict()
-    ensures { (bytes : List ℕ) (v w : Verdict) → FileVerdict bytes v → FileVerdict bytes w → v ≡ w }
+    ensures { (form : Form) (bytes : List ℕ) (v w : Verdict) → FileVerdict form bytes v → FileVerdict form bytes w → v ≡ w }
 {
     one_tree();
     one_fault();
     no_tree();
     one_profile_verdict();
+    one_check_verdict();
 }
 
 /// A file has one text at most.

@@ -43,13 +43,3 @@ pub const EMPTY_BODY: &str =
 
 /// Its text.
 pub const EMPTY_BODY_TEXT: &str = "PROGRAM Main\nEND_PROGRAM\n";
-
-/// One wire from a variable of another type.
-pub const OTHER_TYPE: &str =
-    "<project xmlns=\"http://www.plcopen.org/xml/tc6_0201\"><types><pous><pou name=\"Main\
-    \" pouType=\"program\"><interface><localVars><variable name=\"A\"><type><INT/></type\
-    ></variable><variable name=\"B\"><type><BOOL/></type></variable></localVars></interf\
-    ace><body><FBD><inVariable localId=\"1\"><position x=\"0\" y=\"0\"/><connectionPoint\
-    Out/><expression>A</expression></inVariable><outVariable localId=\"2\"><position x=\
-    \"0\" y=\"0\"/><connectionPointIn><connection refLocalId=\"1\"/></connectionPointIn>\
-    <expression>B</expression></outVariable></FBD></body></pou></pous></types></project>";

@@ -15,4 +15,6 @@ mod tests;
 #[cfg(test)]
 mod values;
 #[cfg(test)]
+mod wires;
+#[cfg(test)]
 mod xml;

@@ -1,6 +1,5 @@
 use crate::files::{
-    EMPTY_BODY, EMPTY_BODY_TEXT, ONE_WIRE, ONE_WIRE_TEXT, OTHER_TYPE, TWO_NETWORKS,
-    TWO_NETWORKS_TEXT,
+    EMPTY_BODY, EMPTY_BODY_TEXT, ONE_WIRE, ONE_WIRE_TEXT, TWO_NETWORKS, TWO_NETWORKS_TEXT,
 };
 use plcx_command::{Status, Words, plcx};
 use plcx_io::{MemDesk, MemFile, MemSink};
@@ -10,7 +9,7 @@ use std::test::Fail;
 const USAGE: &str =
     "plcx: usage: plcx ACTION FILE [EVENTS] [--program NAME] [--turns N] [--retain FILE]\n";
 
-const NOT_BUILT: &str = "plcx: not built\n";
+pub const NOT_BUILT: &str = "plcx: not built\n";
 
 /// What a call left behind.
 #[derive(Drop)]
@@ -99,8 +98,6 @@ fn refuses_what_is_no_command_or_not_built(rt: HostRuntime) -> Result<(), Fail> 
     }
     let simulate = run_words(alloc, &["simulate", "main.xml", "b.csv"], ONE_WIRE, NONE)?;
     assert!(rt; simulate.is(Status::NotBuilt, "", NOT_BUILT));
-    let other_type = run_words(alloc, &["compile", "main.xml"], OTHER_TYPE, NONE)?;
-    assert!(rt; other_type.is(Status::NotBuilt, "", NOT_BUILT));
     Ok(())
 }
 

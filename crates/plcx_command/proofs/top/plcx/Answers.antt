@@ -11,6 +11,7 @@ returns g c =
       checks = checks_exactly one _ _ _ _ _ _ ends;
       complete = is_complete one _ _ _ _ _ _ ends;
       usage = refuses_usage one _ _ _ _ _ _ ends;
+      untouched = c.run.ensures.untouched;
       broken = refuses_broken one _ _ _ _ _ _ ends;
       not_built = refuses_not_built one _ _ _ _ _ _ ends;
       read_fault = blames_reads one _ _ _ _ _ _ ends;

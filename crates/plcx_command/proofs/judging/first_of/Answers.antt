@@ -1,7 +1,7 @@
 use Rattle.std.proofs.Common.{ap, Err}
 use Rattle.plcx_command.proofs.Composed.{bodies_are_small}
 use Rattle.plcx_command.proofs.Judged.{no_form, no_shape}
-use Rattle.plcx_command.proofs.judging.of_project.Goals as goal
+use Rattle.plcx_command.proofs.judging.first_of.Goals as goal
 
 pub plan-requires : goal.plan-requires
 plan-requires c = bodies_are_small c.in-Ok.first (c.sound_forms.ensures c.args.project.now c.in-Ok.first c.in-Ok.ensures.found)
