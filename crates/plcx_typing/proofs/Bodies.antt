@@ -1,10 +1,10 @@
 -- What is found of each body, put together.
-use Rattle.std.proofs.Common.{◌≡◌, ◌≢◌, ℕ, zero, suc, ◌+◌, ◌<◌, ◌≤◌, ◌⊎◌, ◌*◌, ◌++◌, inl, inr, Bool, true, false, List, [], ◌∷◌, if◌then◌else◌, Option, Some, None, length, get_or, slice_get, map, refl, sym, ◌∙◌, ap, subst, arith}
+use Rattle.std.proofs.Common.{◌≡◌, ◌≢◌, ℕ, zero, suc, ◌+◌, ◌<◌, ◌⊎◌, ◌*◌, ◌++◌, inl, inr, Bool, true, false, List, [], ◌∷◌, if◌then◌else◌, Some, None, length, get_or, slice_get, map, refl, sym, ◌∙◌, ap, subst, arith}
 use Rattle.std.specs.Bool.{Decides}
-use Rattle.std.specs.List.{Contains, list_any}
+use Rattle.std.specs.List.{list_any}
 use Rattle.std.proofs.Math.ListN.{get_or-eq_default}
 use Rattle.std.proofs.lemmas.Bool.{cases_lt}
-use Rattle.std.proofs.lemmas.List.{get_or_push, get_or_append_left, get_or_default, length_push, length-map}
+use Rattle.std.proofs.lemmas.List.{get_or_push, get_or_append_left, length-map}
 use Rattle.plcx_types.specs.declared.ty.Ty.{Ty}
 use Rattle.plcx_types.specs.declared.ty.Ty.TheVariants as ty
 use Rattle.plcx_types.specs.TypeName.{all_types}
@@ -19,13 +19,13 @@ use Rattle.plcx_rules.specs.declared.form.WireForm.{WireForm}
 use Rattle.plcx_rules.specs.declared.form.TypeRule.{TypeRule}
 use Rattle.plcx_rules.specs.declared.form.TypeRule.TheVariants.{NoType, Disagreement, Range}
 use Rattle.plcx_rules.specs.declared.form.Form.{Form}
-use Rattle.plcx_rules.specs.Types.{Sheet, no_form, no_pin, form_at, pin_at, sources_at, AtPin, AtGroup, AtOutput, HasType, WireHas}
-use Rattle.plcx_rules.specs.Forms.{wire, form_of, pins_from, wires_from, sheet_of, sheet_at}
+use Rattle.plcx_rules.specs.Types.{Sheet, no_form, no_pin, form_at, pin_at, sources_at, AtPin, AtGroup, HasType, WireHas}
+use Rattle.plcx_rules.specs.Forms.{wire, form_of, pins_from, wires_from, sheet_at}
 use Rattle.plcx_rules.specs.Typed.{wire_at, AreTypes, HaveTypes}
 use Rattle.plcx_rules.specs.TypingRules.{HasNoType, Disagrees, BreaksIn}
 use Rattle.plcx_typing.specs.declared.body.Judged.{Judged}
 use Rattle.plcx_typing.specs.declared.flow.Fact.{Fact}
-use Rattle.plcx_typing.specs.Closure.{is_marked, mark_place, Comes}
+use Rattle.plcx_typing.specs.Closure.{is_marked, Comes}
 use Rattle.plcx_typing.specs.Sheets.{sheet}
 use Rattle.plcx_typing.specs.Flows.{ArePlaced, IsFlowOf, IsGroupPin, FeedsAt}
 use Rattle.plcx_typing.specs.Tests.{AreMarks, gives_has, pin_has}
@@ -42,9 +42,10 @@ pub marks_are : (s : Sheet) (seeds : List Fact) (next : List (List ℕ)) (marks 
 marks_are s seeds next marks flow fed placed count decides e t = elim (cases_lt e (length s.forms)) [
   | inl low ↦ comes_decides s seeds next flow fed e t (is_marked marks e t) (decides e t low)
   | inr high ↦
-      let off : is_marked marks e t ≡ false = get_or-eq_default marks false (omega (arith, count)) in
-      ((λ on. let f : false ≡ true = sym off ∙ on in absurd (cc)),
-       (λ has. let why = group_inverse s e t has in let low = placed why.0 no_pin why.2.count in absurd (omega (arith, low, why.2.owner))))
+      let off : is_marked marks e t ≡ false = get_or-eq_default marks false (omega (arith, count)) in (
+        (λ on. let f : false ≡ true = sym off ∙ on in absurd (cc)),
+        (λ has. let why = group_inverse s e t has in let low = placed why.0 no_pin why.2.count in absurd (omega (arith, low, why.2.owner))),
+      )
 ]
 
 first_in : (p : Ty → Bool) (ts : List Ty) (k : ℕ) (t : Ty) → k < length ts → get_or ts k t ≡ t → p t ≡ true → p (first_type p ts) ≡ true
@@ -117,6 +118,7 @@ module _ (s : Sheet) (marks : List Bool) (are : AreMarks s marks) where
       counts NoType = a.0
       counts Disagreement = b.0
       counts Range = c.0
+
       each : (r : TypeRule) (x : ℕ) → x < length s.forms → Decides (flag (flags_of r (found_by u d o inputs given)) x) (BreaksIn r s x)
       each NoType x low = a.1 x low
       each Disagreement x low = b.1 x low
@@ -183,9 +185,9 @@ have_types pous links js types are none inputs wires = record {
         shared = λ e shares. elim (ok.shared e shares) [
           | inr some ↦ some
           | inl no-type ↦ elim (cases_lt e (length s.forms)) [
-              | inl l ↦ absurd (off NoType e l no-type)
-              | inr h ↦ absurd (shares (ap (λ (f : Form). f.grouping) (get_or-eq_default s.forms no_form h)))
-            ]
+            | inl l ↦ absurd (off NoType e l no-type)
+            | inr h ↦ absurd (shares (ap (λ (f : Form). f.grouping) (get_or-eq_default s.forms no_form h)))
+          ]
         ];
       } in
       subst (λ xs. AreTypes s ws xs (get_or types.wires place [])) (sym at) (subst (λ ys. AreTypes s ws j.inputs ys) (sym at') found);

@@ -1,5 +1,5 @@
 -- The tests decide what they test: which types points have, and the rules at pins and elements.
-use Rattle.std.proofs.Common.{◌≡◌, ◌≢◌, ℕ, zero, suc, ◌+◌, ◌<◌, ◌≤◌, ◌⊎◌, ◌&&◌, ◌||◌, inl, inr, Bool, true, false, not, if◌then◌else◌, ℤ, ◌≤ℤ◌, List, [], ◌∷◌, Option, Some, None, length, get_or, nat_le, nat_eq, refl, sym, ◌∙◌, ap, subst, arith}
+use Rattle.std.proofs.Common.{◌≡◌, ◌≢◌, ℕ, suc, ◌<◌, ◌≤◌, ◌⊎◌, ◌&&◌, ◌||◌, inl, inr, Bool, true, false, not, if◌then◌else◌, ℤ, ◌≤ℤ◌, List, [], ◌∷◌, Option, Some, None, length, get_or, nat_le, nat_eq, refl, sym, ◌∙◌, ap, subst, arith}
 use Rattle.std.specs.Bool.{Decides}
 use Rattle.std.specs.List.{Contains, list_any}
 use Rattle.std.proofs.lemmas.Bool.Decides.{nat_tests, Decides-at, Decides-and, Decides-or, Decides-not, Decides-like}
@@ -20,7 +20,6 @@ use Rattle.plcx_funcs.specs.declared.pins.Class.{Class}
 use Rattle.plcx_funcs.specs.declared.pins.Class.TheVariants as class
 use Rattle.plcx_funcs.specs.Types.{is_allowed, is_whole, is_bool, is_time}
 use Rattle.plcx_model.specs.declared.source.Source.{Source}
-use Rattle.plcx_rules.specs.declared.form.Pin.{Pin}
 use Rattle.plcx_rules.specs.declared.form.Gives.{Gives}
 use Rattle.plcx_rules.specs.declared.form.Gives.TheVariants.{Typed, Grouped, Untyped, Nothing}
 use Rattle.plcx_rules.specs.declared.form.Out.{Out}
@@ -224,7 +223,7 @@ module _ (s : Sheet) where
 abbrev Barred : Sheet → ℕ → Ty → Type 0
 Barred s i t = (((pin_at s i).class ≡ Some class.Lone) × (is_whole t ≡ false))
     ⊎ (((t ≡ ty.Time) × ((o : Source) × Contains (sources_at s i) o × (is_untyped (gives_at s o) ≡ true)))
-      ⊎ ((t ≢ ty.Bool) × (((pin_at s i).modified ≡ true) ⊎ (2 ≤ length (sources_at s i)))))
+    ⊎ ((t ≢ ty.Bool) × (((pin_at s i).modified ≡ true) ⊎ (2 ≤ length (sources_at s i)))))
 
 -- types disagree at the pin, by this type
 abbrev pub PinFault : Sheet → ℕ → Ty → Type 0
@@ -247,8 +246,8 @@ module _ (s : Sheet) (marks : List Bool) (are : AreMarks s marks) where
       Decides-or (is_lone p.class && not (is_whole t)) ((is_time t && list_any (is_literal s) sources) || (not (is_bool t) && (p.modified || nat_le 2 (length sources))))
       (Decides-and (is_lone p.class) (not (is_whole t)) (lone_decides p.class) (off_decides (is_whole t)))
       (Decides-or (is_time t && list_any (is_literal s) sources) (not (is_bool t) && (p.modified || nat_le 2 (length sources)))
-        (Decides-and (is_time t) (list_any (is_literal s) sources) (time_decides t) (literal_decides i))
-        (Decides-and (not (is_bool t)) (p.modified || nat_le 2 (length sources)) (no_bool_decides t) (Decides-or p.modified (nat_le 2 (length sources)) (on_decides p.modified) (le_decides 2 (length sources)))))
+      (Decides-and (is_time t) (list_any (is_literal s) sources) (time_decides t) (literal_decides i))
+      (Decides-and (not (is_bool t)) (p.modified || nat_le 2 (length sources)) (no_bool_decides t) (Decides-or p.modified (nat_le 2 (length sources)) (on_decides p.modified) (le_decides 2 (length sources)))))
 
   fault_decides : (i : ℕ) (t : Ty) → i < length s.pins → Decides (pin_disagrees_at s marks (pin_at s i) (sources_at s i) t) (PinFault s i t)
   fault_decides i t low =
@@ -295,10 +294,10 @@ module _ (s : Sheet) (marks : List Bool) (are : AreMarks s marks) where
   group_fault_decides e =
       let g = (form_at s e).grouping in
       any_type (group_disagrees_at marks e g) (GroupFault e) (λ t.
-          Decides-and (is_marked marks e t) (bars g t || (not (is_passing g) && has_other marks e t)) (are e t)
-          (Decides-or (bars g t) (not (is_passing g) && has_other marks e t) (bars_decides g t)
-            (Decides-and (not (is_passing g)) (has_other marks e t) (passing_decides g)
-              (any_type (λ u. is_marked marks e u && not (same_ty t u)) (λ u. HasType s (AtGroup e) u × (t ≢ u)) (λ u. Decides-and (is_marked marks e u) (not (same_ty t u)) (are e u) (Decides-not (same_ty t u) (same_decides t u)))))))
+      Decides-and (is_marked marks e t) (bars g t || (not (is_passing g) && has_other marks e t)) (are e t)
+      (Decides-or (bars g t) (not (is_passing g) && has_other marks e t) (bars_decides g t)
+      (Decides-and (not (is_passing g)) (has_other marks e t) (passing_decides g)
+      (any_type (λ u. is_marked marks e u && not (same_ty t u)) (λ u. HasType s (AtGroup e) u × (t ≢ u)) (λ u. Decides-and (is_marked marks e u) (not (same_ty t u)) (are e u) (Decides-not (same_ty t u) (same_decides t u)))))))
 
   operand_decides : (o : Option Ty) → Decides (operand_disagrees o) ((t : Ty) × ((o ≡ Some t) × (t ≢ ty.Bool)))
   operand_decides (Some t) = Decides-like (not (is_bool t)) (λ h. (t, (refl, h))) (λ h. let e : t ≡ h.0 = (let f = h.1.0 in cc) in (λ is. h.1.1 (sym e ∙ is))) (no_bool_decides t)

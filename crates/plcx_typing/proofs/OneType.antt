@@ -1,5 +1,5 @@
 -- Where no types disagree each point has one type at most.
-use Rattle.std.proofs.Common.{◌≡◌, ◌≢◌, ℕ, zero, suc, ◌+◌, ◌<◌, ◌≤◌, ◌⊎◌, inl, inr, Bool, true, false, List, [], ◌∷◌, Option, Some, None, length, get_or, refl, sym, ◌∙◌, ap, subst, arith}
+use Rattle.std.proofs.Common.{◌≡◌, ◌≢◌, ℕ, ◌<◌, ◌⊎◌, inl, inr, Bool, true, false, Some, length, get_or, refl, sym, ◌∙◌, ap, subst, arith}
 use Rattle.std.specs.List.{Contains}
 use Rattle.std.proofs.lemmas.Bool.{cases_lt}
 use Rattle.std.proofs.lemmas.List.{get_or_default}
@@ -114,38 +114,38 @@ module _ (s : Sheet) (placed : ArePlaced (length s.forms) s.pins) (single : Have
   pub one_pin : (i : ℕ) (t u : Ty) → i < length s.pins → HasType s (AtPin i) t → HasType s (AtPin i) u → t ≡ u
   one_pin i t u low has has' = elim (pin_inverse s i t has) [
     | ByFixed a ↦ elim (pin_inverse s i u has') [
-        | ByFixed b ↦ let e : Some (class.Fixed t) ≡ Some (class.Fixed u) = sym a ∙ b in cc
-        | ByGroup b h ↦ let e : Some (class.Fixed t) ≡ Some class.Group = sym a ∙ b in absurd (cc)
-        | BySource o b h k ↦ let e : Some (class.Fixed t) ≡ Some class.Lone = sym a ∙ b in absurd (cc)
-        | ByLiteral o b h k d ↦ let e : Some (class.Fixed t) ≡ Some class.Lone = sym a ∙ b in absurd (cc)
-      ]
+      | ByFixed b ↦ let e : Some (class.Fixed t) ≡ Some (class.Fixed u) = sym a ∙ b in cc
+      | ByGroup b h ↦ let e : Some (class.Fixed t) ≡ Some class.Group = sym a ∙ b in absurd (cc)
+      | BySource o b h k ↦ let e : Some (class.Fixed t) ≡ Some class.Lone = sym a ∙ b in absurd (cc)
+      | ByLiteral o b h k d ↦ let e : Some (class.Fixed t) ≡ Some class.Lone = sym a ∙ b in absurd (cc)
+    ]
     | ByGroup a f ↦ elim (pin_inverse s i u has') [
-        | ByFixed b ↦ let e : Some class.Group ≡ Some (class.Fixed u) = sym a ∙ b in absurd (cc)
-        | ByGroup b h ↦ one_group (pin_at s i).element t u f h
-        | BySource o b h k ↦ let e : Some class.Group ≡ Some class.Lone = sym a ∙ b in absurd (cc)
-        | ByLiteral o b h k d ↦ let e : Some class.Group ≡ Some class.Lone = sym a ∙ b in absurd (cc)
-      ]
+      | ByFixed b ↦ let e : Some class.Group ≡ Some (class.Fixed u) = sym a ∙ b in absurd (cc)
+      | ByGroup b h ↦ one_group (pin_at s i).element t u f h
+      | BySource o b h k ↦ let e : Some class.Group ≡ Some class.Lone = sym a ∙ b in absurd (cc)
+      | ByLiteral o b h k d ↦ let e : Some class.Group ≡ Some class.Lone = sym a ∙ b in absurd (cc)
+    ]
     | BySource o a f g ↦ elim (pin_inverse s i u has') [
-        | ByFixed b ↦ let e : Some class.Lone ≡ Some (class.Fixed u) = sym a ∙ b in absurd (cc)
-        | ByGroup b h ↦ let e : Some class.Lone ≡ Some class.Group = sym a ∙ b in absurd (cc)
-        | BySource p b h k ↦ elim (same_or t u) [
-            | inl is ↦ is
-            | inr differ ↦ one (AtOutput o) t g u (subst (λ y. HasType s (AtOutput y) u) (sym (one_source i o p (few_two i t u low has has' differ) f h)) k)
-          ]
-        | ByLiteral p b h k d ↦ elim (same_or t u) [
-            | inl is ↦ is
-            | inr differ ↦ absurd (no_literal o t (subst (λ y. is_untyped (gives_at s y) ≡ true) (sym (one_source i o p (few_two i t u low has has' differ) f h)) k) g)
-          ]
+      | ByFixed b ↦ let e : Some class.Lone ≡ Some (class.Fixed u) = sym a ∙ b in absurd (cc)
+      | ByGroup b h ↦ let e : Some class.Lone ≡ Some class.Group = sym a ∙ b in absurd (cc)
+      | BySource p b h k ↦ elim (same_or t u) [
+        | inl is ↦ is
+        | inr differ ↦ one (AtOutput o) t g u (subst (λ y. HasType s (AtOutput y) u) (sym (one_source i o p (few_two i t u low has has' differ) f h)) k)
       ]
+      | ByLiteral p b h k d ↦ elim (same_or t u) [
+        | inl is ↦ is
+        | inr differ ↦ absurd (no_literal o t (subst (λ y. is_untyped (gives_at s y) ≡ true) (sym (one_source i o p (few_two i t u low has has' differ) f h)) k) g)
+      ]
+    ]
     | ByLiteral o a f g d ↦ elim (pin_inverse s i u has') [
-        | ByFixed b ↦ let e : Some class.Lone ≡ Some (class.Fixed u) = sym a ∙ b in absurd (cc)
-        | ByGroup b h ↦ let e : Some class.Lone ≡ Some class.Group = sym a ∙ b in absurd (cc)
-        | BySource p b h k ↦ elim (same_or t u) [
-            | inl is ↦ is
-            | inr differ ↦ absurd (no_literal o u g (subst (λ y. HasType s (AtOutput y) u) (sym (one_source i o p (few_two i t u low has has' differ) f h)) k))
-          ]
-        | ByLiteral p b h k e ↦ d ∙ sym e
+      | ByFixed b ↦ let e : Some class.Lone ≡ Some (class.Fixed u) = sym a ∙ b in absurd (cc)
+      | ByGroup b h ↦ let e : Some class.Lone ≡ Some class.Group = sym a ∙ b in absurd (cc)
+      | BySource p b h k ↦ elim (same_or t u) [
+        | inl is ↦ is
+        | inr differ ↦ absurd (no_literal o u g (subst (λ y. HasType s (AtOutput y) u) (sym (one_source i o p (few_two i t u low has has' differ) f h)) k))
       ]
+      | ByLiteral p b h k e ↦ d ∙ sym e
+    ]
   ]
 
   -- a type that comes so

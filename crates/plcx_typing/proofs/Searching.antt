@@ -1,5 +1,5 @@
 -- The search for the types of groups: each fact is found once, and nothing is left out.
-use Rattle.std.proofs.Common.{◌≡◌, ℕ, zero, suc, ◌+◌, ◌*◌, ◌<◌, ◌≤◌, ◌⊎◌, ◌++◌, inl, inr, Bool, true, false, not, cond, List, [], ◌∷◌, length, get_or, set, replicate, refl, sym, ◌∙◌, ap, subst, arith, length-set, get_or-set_same, get_or-set_other}
+use Rattle.std.proofs.Common.{◌≡◌, ℕ, zero, suc, ◌+◌, ◌*◌, ◌<◌, ◌≤◌, ◌⊎◌, ◌++◌, inl, inr, Bool, true, false, cond, List, [], ◌∷◌, length, get_or, set, replicate, refl, sym, ◌∙◌, ap, subst, arith, length-set, get_or-set_same, get_or-set_other}
 use Rattle.std.specs.Bool.{Decides}
 use Rattle.std.specs.List.{Contains}
 use Rattle.std.proofs.lemmas.Bool.{cases_lt, cases_eq}
@@ -178,7 +178,8 @@ module _ (seeds : List Fact) (next : List (List ℕ)) (n : ℕ) where
         let listed = s.whole e t h m in
         let at : found_at found listed.0 ≡ fact e t = get_or_default found listed.0 no_fact (fact e t) listed.1 ∙ listed.2 in
         subst (λ (f : Fact). Comes seeds next f.element f.ty) at (s.each listed.0 listed.1).comes),
-    (λ comes. (all_marked marks found done flow s over seeded e t comes).1))
+    (λ comes. (all_marked marks found done flow s over seeded e t comes).1),
+  )
 
   -- what follows from the next fact comes
   pub follows : (marks : List Bool) (found : List Fact) (done : ℕ) (f : Fact) (items : List ℕ) → IsFlow n seeds next → IsSearch seeds next n marks found done → done < length found → f ≡ found_at found done

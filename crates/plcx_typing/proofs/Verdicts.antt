@@ -1,6 +1,5 @@
 -- The marks of all bodies give the verdict.
-use Rattle.std.proofs.Common.{◌≡◌, ℕ, zero, suc, ◌+◌, ◌-◌, ◌<◌, ◌≤◌, ◌++◌, true, false, List, [], ◌∷◌, Option, Some, None, length, get_or, slice_get, map, refl, sym, ◌∙◌, ap, subst, arith}
-use Rattle.std.specs.Bool.{Decides}
+use Rattle.std.proofs.Common.{◌≡◌, ℕ, zero, suc, ◌+◌, ◌<◌, ◌≤◌, ◌++◌, true, false, List, [], ◌∷◌, Option, Some, None, length, slice_get, refl, sym, ◌∙◌, subst, arith}
 use Rattle.std.proofs.lemmas.List.{length-map}
 use Rattle.plcx_model.specs.declared.broken.Place.{Place}
 use Rattle.plcx_model.specs.declared.broken.Place.TheVariants.{Element}
@@ -11,7 +10,7 @@ use Rattle.plcx_model.specs.Verdict.{IsFirst, Here, Later, Never, Verdict, Broke
 use Rattle.plcx_model.specs.Verdict as verdicts
 use Rattle.plcx_rules.specs.declared.form.TypeRule.{TypeRule}
 use Rattle.plcx_rules.specs.declared.form.TypeRule.TheVariants.{NoType, Disagreement, Range}
-use Rattle.plcx_rules.specs.Items.{Item, items_in, items_from, items_of, place_of}
+use Rattle.plcx_rules.specs.Items.{Item, items_in, items_from, items_of}
 use Rattle.plcx_rules.specs.Forms.{form_of, sheet_at}
 use Rattle.plcx_rules.specs.TypingRules.{BreaksIn, BreaksTyping, type_rules, type_rule_number, type_place}
 use Rattle.plcx_typing.specs.declared.body.Judged.{Judged}
@@ -90,17 +89,31 @@ module _ (B : ℕ → Pou → ℕ → Type 0) where
       let start : k + 0 ≡ k = omega arith in
       subst (λ z. (x : BodyElement) × ((slice_get p.body.elements e ≡ Some x) × IsFound (items_in k z 0 z.body.elements ++ items_from (k + 1) ps) (k + 0) p e x)) (sym same)
       (subst (λ n. (x : BodyElement) × ((slice_get p.body.elements e ≡ Some x) × IsFound (items_in k p 0 p.body.elements ++ items_from (k + 1) ps) n p e x)) (sym start)
-        (let found = body_first k p 0 p.body.elements e (subst (λ n. B n p (0 + e)) start (subst (B (k + 0) p) (let f : e ≡ 0 + e = omega arith in f) here)) low
-            (λ j l broken. before j l (subst (λ n. B n p j) (sym start) (subst (B k p) (let f : 0 + j ≡ j = omega arith in f) broken))) in
-         (found.0, (found.1.0, record { first = λ b. subst (λ n. IsFirst (λ (c : List Item) (y : Item). At y) b (items_in k p 0 p.body.elements ++ items_from (k + 1) ps) (item k p n found.0)) (let f : 0 + e ≡ e = omega arith in f)
-             (first_front At b (items_in k p 0 p.body.elements) (items_from (k + 1) ps) (item k p (0 + e) found.0) (found.1.1.first b)) }))))
+      (let found = body_first k p 0 p.body.elements e (subst (λ n. B n p (0 + e)) start (subst (B (k + 0) p) (let f : e ≡ 0 + e = omega arith in f) here)) low
+      (λ j l broken. before j l (subst (λ n. B n p j) (sym start) (subst (B k p) (let f : 0 + j ≡ j = omega arith in f) broken))) in (
+        found.0,
+        (
+          found.1.0,
+          record {
+            first = λ b. subst (λ n. IsFirst (λ (c : List Item) (y : Item). At y) b (items_in k p 0 p.body.elements ++ items_from (k + 1) ps) (item k p n found.0)) (let f : 0 + e ≡ e = omega arith in f)
+                (first_front At b (items_in k p 0 p.body.elements) (items_from (k + 1) ps) (item k p (0 + e) found.0) (found.1.1.first b));
+          },
+        ),
+      )))
   pous_first k (o ∷ ps) (suc q) p e is low here before earlier =
       let step : k + suc q ≡ (k + 1) + q = omega arith in
       let found = pous_first (k + 1) ps q p e is low (subst (λ n. B n p e) step here) (λ j l broken. before j l (subst (λ n. B n p j) (sym step) broken))
-          (λ r z l there. subst (λ n. Kept n z) (let f : k + suc r ≡ (k + 1) + r = omega arith in f) (earlier (suc r) z (omega arith) there)) in
-      let own : Kept k o = subst (λ n. Kept n o) (let f : k + 0 ≡ k = omega arith in f) (earlier 0 o (omega arith) refl) in
-      (found.0, (found.1.0, record { first = λ b. subst (λ n. IsFirst (λ (c : List Item) (y : Item). At y) b (items_in k o 0 o.body.elements ++ items_from (k + 1) ps) (item n p e found.0)) (sym step)
-          (first_behind At b (items_in k o 0 o.body.elements) (items_from (k + 1) ps) (item ((k + 1) + q) p e found.0) (own_never k o own b) found.1.1.first) }))
+      (λ r z l there. subst (λ n. Kept n z) (let f : k + suc r ≡ (k + 1) + r = omega arith in f) (earlier (suc r) z (omega arith) there)) in
+      let own : Kept k o = subst (λ n. Kept n o) (let f : k + 0 ≡ k = omega arith in f) (earlier 0 o (omega arith) refl) in (
+        found.0,
+        (
+          found.1.0,
+          record {
+            first = λ b. subst (λ n. IsFirst (λ (c : List Item) (y : Item). At y) b (items_in k o 0 o.body.elements ++ items_from (k + 1) ps) (item n p e found.0)) (sym step)
+                (first_behind At b (items_in k o 0 o.body.elements) (items_from (k + 1) ps) (item ((k + 1) + q) p e found.0) (own_never k o own b) found.1.1.first);
+          },
+        ),
+      )
 
 -- ---- the verdict
 
@@ -142,8 +155,8 @@ module _ (pous : List Pou) (links : List (List (List Source))) (js : List Judged
       let low : e < length p.body.elements = omega (arith, h.here.within, judged.count r, forms_count pou p) in
       let here : Breaking r pou p e = (judged.faults r e (omega (arith, forms_count pou p))).0 h.here.raised in
       let found = pous_first (Breaking r) 0 pous pou p e own.1 low (subst (λ n. Breaking r n p e) (sym (zero_plus pou)) here)
-          (λ j l broken. not-raised r pou p j own.1 (omega arith) (h.here.first j l) (subst (λ n. Breaking r n p j) (zero_plus pou) broken))
-          (λ q o l is. subst (λ n. Kept (Breaking r) n o) (sym (zero_plus q)) (λ j low' broken. not-raised r q o j is low' (h.earlier q l j) broken)) in
+      (λ j l broken. not-raised r pou p j own.1 (omega arith) (h.here.first j l) (subst (λ n. Breaking r n p j) (zero_plus pou) broken))
+      (λ q o l is. subst (λ n. Kept (Breaking r) n o) (sym (zero_plus q)) (λ j low' broken. not-raised r q o j is low' (h.earlier q l j) broken)) in
       (p, (own.1, (found.0, (found.1.0, subst (λ n. IsFirst (BreaksTyping pous links r) [] (items_of pous) (item (Breaking r) n p e found.0)) (zero_plus pou) (found.1.1.first [])))))
 
   abbrev Says : List TypeRule → Option (TypeRule × Place) → Type 0

@@ -71,12 +71,7 @@ fn first_fault(judged: &[Judged]) -> Option<(TypeRule, usize, usize)>
 }
 
 /// The place of an element.
-fn place_at(
-    alloc: Global,
-    pous: &[Pou],
-    pou: usize,
-    element: usize,
-) -> Result<Place, NoMemory>
+fn place_at(alloc: Global, pous: &[Pou], pou: usize, element: usize) -> Result<Place, NoMemory>
     requires pou { pou < length pous.now }
     requires element { (p : Pou) → slice_get pous.now pou ≡ Some p → element < length p.body.elements }
     ensures { IfOk result (λ place. (p : Pou) (x : BodyElement) → slice_get pous.now pou ≡ Some p → slice_get p.body.elements element ≡ Some x → place ≡ Element p.name x.local_id) }

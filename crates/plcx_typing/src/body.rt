@@ -35,13 +35,7 @@ pub(crate) struct Judged {
     pub wires: Items<Ty>,
 }
 
-fn pin_type_among(
-    types: &[Ty],
-    forms: &[Form],
-    marks: &[bool],
-    pin: Pin,
-    sources: &[Source],
-) -> Ty
+fn pin_type_among(types: &[Ty], forms: &[Form], marks: &[bool], pin: Pin, sources: &[Source]) -> Ty
     ensures { result ≡ first_type (pin_has (sheet forms.now [] []) marks.now pin sources.now) types.now }
 {
     for ty in types {

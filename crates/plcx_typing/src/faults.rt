@@ -9,7 +9,9 @@ ghost use Rattle.plcx_typing.specs.Tests.{AreMarks};
 ghost use Rattle.plcx_typing.specs.Faults.{flag, element_breaks, pin_breaks, literal_breaks, source_raises, pin_raises, pins_raise, breaks_at};
 
 use crate::outputs::sources_at;
-use crate::rules::{form_disagrees, has_no_type, is_literal, literal_disagrees, literal_outside, pin_disagrees};
+use crate::rules::{
+    form_disagrees, has_no_type, is_literal, literal_disagrees, literal_outside, pin_disagrees,
+};
 use plcx_model::Source;
 use plcx_rules::{Form, Pin, TypeRule};
 use plcx_types::NoMemory;
@@ -26,13 +28,7 @@ fn element_breaks(rule: TypeRule, marks: &[bool], element: u32, form: &Form) -> 
     }
 }
 
-fn pin_breaks(
-    rule: TypeRule,
-    forms: &[Form],
-    marks: &[bool],
-    pin: Pin,
-    sources: &[Source],
-) -> bool
+fn pin_breaks(rule: TypeRule, forms: &[Form], marks: &[bool], pin: Pin, sources: &[Source]) -> bool
     ensures { result ≡ pin_breaks rule (sheet forms.now [] []) marks.now pin sources.now }
 {
     match rule {
@@ -81,7 +77,8 @@ fn raise_literal(
     ensures count { length flags.new.items ≡ length flags.old.items }
     ensures flags { (x : ℕ) → x < length flags.old.items → flag flags.new.items x ≡ (flag flags.old.items x || source_raises rule (sheet forms.now [] []) marks.now pin sources.now x source) }
 {
-    if is_literal(forms, source) && literal_breaks(rule, forms, marks, pin, sources, source.element)
+    if is_literal(forms, source)
+        && literal_breaks(rule, forms, marks, pin, sources, source.element)
     {
         raise(flags, source.element);
     }

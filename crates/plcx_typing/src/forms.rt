@@ -349,9 +349,7 @@ fn output_class(func: Func) -> Class
 fn has_enable(inputs: &[PinIn]) -> bool
     ensures { result ≡ list_any (λ p. is_enable p && is_connected p) inputs.now }
 {
-    inputs
-        .iter()
-        .any(|pin| is_enable(pin) && is_connected(pin))
+    inputs.iter().any(|pin| is_enable(pin) && is_connected(pin))
 }
 
 fn lists_eno(outputs: &[PinOut]) -> bool
@@ -383,12 +381,7 @@ fn block_outputs(
 
 impl Layout {
     /// One element more, with at most one input pin and at most one wire.
-    fn put(
-        &mut self,
-        form: Form,
-        pin: Option<Pin>,
-        wire: Option<WireForm>,
-    ) -> Result<(), NoMemory>
+    fn put(&mut self, form: Form, pin: Option<Pin>, wire: Option<WireForm>) -> Result<(), NoMemory>
         ensures forms { OnOk result (self.new.forms.items ≡ self.old.forms.items ++ form ∷ []) }
         ensures pins { OnOk result (self.new.pins.items ≡ self.old.pins.items ++ option_to_list pin) }
         ensures wires { OnOk result (self.new.wires.items ≡ self.old.wires.items ++ option_to_list wire) }

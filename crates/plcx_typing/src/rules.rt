@@ -95,13 +95,7 @@ fn lone_has(forms: &[Form], marks: &[bool], sources: &[Source], ty: Ty) -> bool
 }
 
 /// A pin with these sources has the type.
-pub(crate) fn pin_has(
-    forms: &[Form],
-    marks: &[bool],
-    pin: Pin,
-    sources: &[Source],
-    ty: Ty,
-) -> bool
+pub(crate) fn pin_has(forms: &[Form], marks: &[bool], pin: Pin, sources: &[Source], ty: Ty) -> bool
     ensures { result ≡ pin_has (sheet forms.now [] []) marks.now pin sources.now ty }
 {
     match pin.class {
@@ -129,13 +123,7 @@ fn is_barred(forms: &[Form], pin: Pin, sources: &[Source], ty: Ty) -> bool
             || (!is_bool(ty) && (pin.modified || 2 <= sources.len())))
 }
 
-fn pin_disagrees_at(
-    forms: &[Form],
-    marks: &[bool],
-    pin: Pin,
-    sources: &[Source],
-    ty: Ty,
-) -> bool
+fn pin_disagrees_at(forms: &[Form], marks: &[bool], pin: Pin, sources: &[Source], ty: Ty) -> bool
     ensures { result ≡ pin_disagrees_at (sheet forms.now [] []) marks.now pin sources.now ty }
 {
     let has = pin_has(forms, marks, pin, sources, ty);
@@ -187,9 +175,7 @@ fn bars(grouping: Grouping, ty: Ty) -> bool
 fn has_other_among(types: &[Ty], marks: &[bool], element: u32, ty: Ty) -> bool
     ensures { result ≡ list_any (λ u. is_marked marks.now element u && not (same_ty ty u)) types.now }
 {
-    types
-        .iter()
-        .any(|other| is_marked(marks, element, *other) && !same_ty(ty, *other))
+    types.iter().any(|other| is_marked(marks, element, *other) && !same_ty(ty, *other))
 }
 
 fn group_disagrees_at(marks: &[bool], element: u32, grouping: Grouping, ty: Ty) -> bool
@@ -200,12 +186,7 @@ fn group_disagrees_at(marks: &[bool], element: u32, grouping: Grouping, ty: Ty) 
             || (!is_passing(grouping) && has_other_among(&ALL_TYPES, marks, element, ty)))
 }
 
-fn group_disagrees_among(
-    types: &[Ty],
-    marks: &[bool],
-    element: u32,
-    grouping: Grouping,
-) -> bool
+fn group_disagrees_among(types: &[Ty], marks: &[bool], element: u32, grouping: Grouping) -> bool
     ensures { result ≡ list_any (group_disagrees_at marks.now element grouping) types.now }
 {
     types
@@ -225,9 +206,7 @@ fn operand_disagrees(operand: Option<Ty>) -> bool
 fn gives_no_bool_among(types: &[Ty], marks: &[bool], element: u32, gives: Gives) -> bool
     ensures { result ≡ list_any (λ t. gives_has marks.now element gives t && not (is_bool t)) types.now }
 {
-    types
-        .iter()
-        .any(|ty| gives_has(marks, element, gives, *ty) && !is_bool(*ty))
+    types.iter().any(|ty| gives_has(marks, element, gives, *ty) && !is_bool(*ty))
 }
 
 fn out_disagrees(marks: &[bool], element: u32, out: Out) -> bool
@@ -273,13 +252,7 @@ pub(crate) fn has_no_type(marks: &[bool], element: u32, grouping: Grouping) -> b
     !is_apart(grouping) && !any_marked_among(&ALL_TYPES, marks, element)
 }
 
-fn taken_has(
-    forms: &[Form],
-    marks: &[bool],
-    pin: Pin,
-    sources: &[Source],
-    ty: Ty,
-) -> bool
+fn taken_has(forms: &[Form], marks: &[bool], pin: Pin, sources: &[Source], ty: Ty) -> bool
     ensures { result ≡ taken_has (sheet forms.now [] []) marks.now pin sources.now ty }
 {
     if is_lone(pin.class) {
@@ -298,9 +271,7 @@ fn takes_no_bool_among(
 ) -> bool
     ensures { result ≡ list_any (λ t. taken_has (sheet forms.now [] []) marks.now pin sources.now t && not (is_bool t)) types.now }
 {
-    types
-        .iter()
-        .any(|ty| taken_has(forms, marks, pin, sources, *ty) && !is_bool(*ty))
+    types.iter().any(|ty| taken_has(forms, marks, pin, sources, *ty) && !is_bool(*ty))
 }
 
 /// The inVariable is negated, and takes a type other than BOOL at the pin.
@@ -327,9 +298,7 @@ fn takes_outside_among(
 ) -> bool
     ensures { result ≡ list_any (λ t. taken_has (sheet forms.now [] []) marks.now pin sources.now t && not (is_within t n)) types.now }
 {
-    types
-        .iter()
-        .any(|ty| taken_has(forms, marks, pin, sources, *ty) && !is_within(*ty, n))
+    types.iter().any(|ty| taken_has(forms, marks, pin, sources, *ty) && !is_within(*ty, n))
 }
 
 /// The inVariable's number is outside a type that it takes at the pin.

@@ -1,4 +1,4 @@
-use Rattle.std.proofs.Common.{◌≡◌, ◌<◌, ◌+◌, ℕ, [], true, inl, inr, length, get_or, refl, sym, ◌∙◌, ap, subst, arith}
+use Rattle.std.proofs.Common.{◌≡◌, [], true, inl, inr, get_or, sym, ◌∙◌, ap, subst, arith}
 use Rattle.std.specs.List.{Contains}
 use Rattle.std.proofs.lemmas.Bool.{cases_lt}
 use Rattle.std.proofs.lemmas.List.{get_or_read, get_or_default}
@@ -56,8 +56,8 @@ returns-clause-search c =
     let was = c.loop-element.invariant in
     let stays : found_at c.loop-element.self.found.items c.args.done ≡ f = was.extends.same c.args.done c.requires.more ∙ sym at in
     let passed : IsPassed next marks f = λ v there.
-        let here : Contains items v = subst (λ xs. Contains xs v) (sym (c.as_slice-element-items.ensures ∙ is)) there in
-        let value : get_or items here.0 0 ≡ v = get_or_default items here.0 0 v here.1 ∙ here.2 in
-        subst (λ x. is_marked marks x f.ty ≡ true) value (was.met here.0 (omega (arith, here.1, c.loop-element-test.false)))
+    let here : Contains items v = subst (λ xs. Contains xs v) (sym (c.as_slice-element-items.ensures ∙ is)) there in
+    let value : get_or items here.0 0 ≡ v = get_or_default items here.0 0 v here.1 ∙ here.2 in
+    subst (λ x. is_marked marks x f.ty ≡ true) value (was.met here.0 (omega (arith, here.1, c.loop-element-test.false)))
     in
     passed_more seeds next c.args.count marks c.loop-element.self.found.items c.args.done was.search (omega (arith, c.requires.more, was.extends.longer)) (subst (IsPassed next marks) (sym stays) passed)
