@@ -71,7 +71,7 @@ pub fn first_part<P: Part>(alloc: Global, element: &Element) -> Result<Option<P>
     Ok(None)
 }
 
-fn child_named<'a>(node: &'a Node, name: &str) -> Option<&'a Element>
+fn child_named<'a, 'f>(node: &'a Node<'f>, name: &str) -> Option<&'a Element<'f>>
     ensures { option_copied result ≡ part_in (named name.now) (out-Node node.now) }
 {
     match node {
@@ -88,7 +88,7 @@ fn child_named<'a>(node: &'a Node, name: &str) -> Option<&'a Element>
 
 /// The first child of a name.
 #[tactic(auto, unfolding(crate::specs::Parts::first_child, crate::specs::Parts::first_part, crate::specs::Parts::parts_of))]
-pub fn first_child<'a>(element: &'a Element, name: &str) -> Option<&'a Element>
+pub fn first_child<'a, 'f>(element: &'a Element<'f>, name: &str) -> Option<&'a Element<'f>>
     ensures { option_copied result ≡ first_child name.now element.now }
 {
     for node in element.children() {
@@ -99,7 +99,7 @@ pub fn first_child<'a>(element: &'a Element, name: &str) -> Option<&'a Element>
     None
 }
 
-fn text_in(node: &Node) -> Option<&[u8]>
+fn text_in<'a>(node: &'a Node) -> Option<&'a [u8]>
     ensures { option_copied result ≡ text_in (out-Node node.now) }
 {
     match node {
@@ -109,7 +109,7 @@ fn text_in(node: &Node) -> Option<&[u8]>
 }
 
 #[tactic(auto, unfolding(crate::specs::Parts::text_of))]
-fn text_of(element: &Element) -> &[u8]
+fn text_of<'a>(element: &'a Element) -> &'a [u8]
     ensures { result.now ≡ text_of element.now }
 {
     for node in element.children() {

@@ -69,7 +69,7 @@ fn value_at(alloc: Global, element: Option<&Element>) -> Result<Option<Items<u8>
     }
 }
 
-fn child_of<'a>(element: &'a Element, name: &str, inner: &str) -> Option<&'a Element>
+fn child_of<'a, 'f>(element: &'a Element<'f>, name: &str, inner: &str) -> Option<&'a Element<'f>>
     ensures { option_copied result ≡ option_and_then (first_child inner.now) (first_child name.now element.now) }
 {
     first_child(first_child(element, name)?, inner)

@@ -1,5 +1,5 @@
 -- The diagram of a body that is built fits.
-use Rattle.std.proofs.Common.{◌≡◌, ◌≢◌, ℕ, suc, ◌+◌, ◌≤◌, ◌<◌, ◌^◌, inl, inr, Bool, true, false, ◌||◌, ◌&&◌, List, [], ◌∷◌, ◌++◌, Some, None, map, length, nat_eq, refl, sym, ap, ◌∙◌, subst, append-nil, arith}
+use Rattle.std.proofs.Common.{◌≡◌, ◌≢◌, ℕ, suc, ◌+◌, ◌*◌, ◌≤◌, ◌<◌, ◌^◌, inl, inr, Bool, true, false, ◌||◌, ◌&&◌, List, [], ◌∷◌, ◌++◌, Some, None, map, length, nat_eq, refl, sym, ap, ◌∙◌, subst, append-nil, arith}
 use Rattle.std.specs.List.{Contains, flat_map, sum_by, list_any}
 use Rattle.std.specs.Str.{bytes_eq}
 use Rattle.std.proofs.lemmas.Bool.{or_cases, or_left, or_right, or_from, cond-true, cond-false, cases_Bool, and_parts, eqb-true, both_ways}
@@ -7,6 +7,7 @@ use Rattle.std.proofs.lemmas.Int.{ints}
 use Rattle.std.proofs.lemmas.Slice.Eq.{bytes_eq-Decides}
 use Rattle.std.proofs.lemmas.List.{length-map}
 use Rattle.std.proofs.lemmas.List.Sums.{sum_by-cons}
+use Rattle.plcx_types.specs.Limits.{max_parts}
 use Rattle.plcx_types.specs.Name.{in_lower_case}
 use Rattle.plcx_types.specs.TypeName.{type_named}
 use Rattle.plcx_types.specs.declared.ty.Ty.TheVariants as ty
@@ -210,7 +211,7 @@ few_leaves p ns few =
     let is = ap (λ (vs : List layout.Variable). length (flat_map (variable_leaves (leaves 17 c) c []) vs)) (variables_are p.variables) ∙ leaves_are c (leaves 17 c) p.variables in
     subst (λ n. n ≤ 262144) (sym is) (omega (arith, few))
 
-few_parts : (p : Pou) (ns : List (List Element)) → length p.elements ≤ 4096 → parts 18 (diagram_of p ns ∷ []) (diagram_of p ns) ≤ 2097152
+few_parts : (p : Pou) (ns : List (List Element)) → length p.elements ≤ 4096 → parts 18 (diagram_of p ns ∷ []) (diagram_of p ns) ≤ 2 * max_parts
 few_parts p ns few =
     let project = diagram_of p ns ∷ [] in
     let none = ap (sum_by (variable_parts (parts 17 project) project)) (variables_are p.variables) ∙ no_parts (parts 17 project) project p.variables in

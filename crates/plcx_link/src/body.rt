@@ -1,19 +1,47 @@
 //! A body with its names in tables, and with what its blocks call and its expressions hold.
 ghost use Rattle.std.specs.Prelude.{◌≡◌, ◌++◌, Some, None, map, option_map, slice_get, is_some, IfOk};
 ghost use Rattle.plcx_rules.specs.Callees.{names_function};
-ghost use Rattle.plcx_link.specs.Bodies.{callee_in, held_in, resolved};
+ghost use Rattle.plcx_link.specs.Bodies.{callee_in, holding_in, resolved, both, shown_standing, standing};
 
 use plcx_model::{BodyElement, Kind, Pou};
-use plcx_names::{Held, Owner, Places, Scope, text_held};
+use plcx_names::{Holding, NOTHING, Owner, Places, Scope, text_holding};
 use plcx_rules::Callee;
 use std::alloc::{AllocError, Global};
 use std::marker::Model;
 
-/// What a block calls, and what an expression holds.
+/// What a block calls, and what an element holds.
 #[derive(Clone, Copy, Debug, PartialEq, Eq)]
 pub struct Resolved {
     pub callee: Option<Callee>,
-    pub held: Option<Held>,
+    pub holding: Holding,
+}
+
+/// An element of a body, with what it calls and holds.
+#[derive(Clone, Copy)]
+pub struct Standing<'a> {
+    pub element: &'a BodyElement,
+    pub resolved: Resolved,
+}
+
+fn element_at(elements: &[BodyElement], place: usize) -> Option<&BodyElement>
+    ensures { option_map (λ e. e.now) result ≡ slice_get elements.now place }
+{
+    elements.get(place)
+}
+
+fn resolved_at(all: &[Resolved], place: usize) -> Option<Resolved>
+    ensures { result ≡ slice_get all.now place }
+{
+    all.get(place).copied()
+}
+
+fn joined<'a>(element: Option<&'a BodyElement>, resolved: Option<Resolved>) -> Option<Standing<'a>>
+    ensures { option_map shown_standing result ≡ both (option_map (λ e. e.now) element.entry) resolved }
+{
+    match (element, resolved) {
+        (Some(element), Some(resolved)) => Some(Standing { element, resolved }),
+        _ => None,
+    }
 }
 
 #[tactic(auto, unfolding(crate::specs::Bodies::callee_in))]
@@ -26,25 +54,25 @@ fn callee_in(alloc: Global, scope: &Scope, kind: &Kind) -> Result<Option<Callee>
     }
 }
 
-#[tactic(auto, unfolding(crate::specs::Bodies::held_in))]
-fn held_in(
+#[tactic(auto, unfolding(crate::specs::Bodies::holding_in))]
+fn holding_in(
     alloc: Global,
     scope: &Scope,
     owner: &Owner,
     kind: &Kind,
-) -> Result<Option<Held>, AllocError>
-    ensures { IfOk result (λ held. held ≡ held_in scope.now owner.now kind.now) }
+) -> Result<Holding, AllocError>
+    ensures { IfOk result (λ h. h ≡ holding_in scope.now owner.now kind.now) }
 {
     match kind {
         Kind::Contact { text, .. }
         | Kind::Coil { text, .. }
         | Kind::In { text, .. }
-        | Kind::Out { text, .. } => Ok(text_held(alloc, scope, owner, text.as_slice())?),
-        _ => Ok(None),
+        | Kind::Out { text, .. } => Ok(text_holding(alloc, scope, owner, text.as_slice())?),
+        _ => Ok(NOTHING),
     }
 }
 
-fn resolved(
+fn resolve(
     alloc: Global,
     scope: &Scope,
     owner: &Owner,
@@ -54,7 +82,7 @@ fn resolved(
 {
     Ok(Resolved {
         callee: callee_in(alloc, scope, &element.kind)?,
-        held: held_in(alloc, scope, owner, &element.kind)?,
+        holding: holding_in(alloc, scope, owner, &element.kind)?,
     })
 }
 
@@ -68,7 +96,7 @@ fn all_resolved(
 {
     let mut all = Vec::new(alloc);
     for element in elements {
-        all.push(resolved(alloc, scope, owner, element)?)?;
+        all.push(resolve(alloc, scope, owner, element)?)?;
     }
     Ok(all)
 }
@@ -142,10 +170,12 @@ impl<'a> ScopedBody<'a> {
         self.places.elements()
     }
 
-    /// What the element at a place calls and holds.
-    pub fn resolved(&self, place: usize) -> Option<Resolved>
-        ensures { result ≡ option_map (resolved self.now.pous self.now.owner) (slice_get self.now.owner.body.elements place) }
+    /// The element at a place, with what it calls and holds.
+    pub fn standing(&self, place: usize) -> Option<Standing<'a>>
+        ensures { option_map shown_standing result ≡ option_map (standing self.now.pous self.now.owner) (slice_get self.now.owner.body.elements place) }
     {
-        self.all.get(place).copied()
+        let element = element_at(self.elements(), place);
+        let resolved = resolved_at(&self.all, place);
+        joined(element, resolved)
     }
 }

@@ -9,12 +9,12 @@ mod blocks;
 mod body;
 mod error;
 mod expressions;
+mod formals;
 mod judging;
-mod link;
-mod pins;
+mod linking;
 mod references;
 mod rules;
 mod sources;
 
 pub use error::LinkError;
-pub use link::link;
+pub use linking::link;

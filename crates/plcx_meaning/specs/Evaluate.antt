@@ -162,7 +162,7 @@ abbrev pub call_does : List ℕ → List ℕ → ℤ → List InputPin → List 
 call_does instance type v inputs in_outs c values d =
     if is_true v
     then c.called type (record { path = in_lower_case instance ∷ c.site.path; bound = bind in_outs (leaf_named c.variables c.site) })
-        (store_inputs inputs (in_lower_case instance ∷ c.site.path) values d)
+    (store_inputs inputs (in_lower_case instance ∷ c.site.path) values d)
     else Ended d tt
 
 -- the effect of an element of this number

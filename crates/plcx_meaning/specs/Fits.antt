@@ -1,5 +1,5 @@
 -- What the checks of a project promise of its diagrams.
-use Rattle.std.specs.Prelude.{◌≡◌, ◌≢◌, ◌≤◌, ◌<◌, ◌^◌, ℕ, suc, zero, Bool, true, false, not, ◌||◌, ◌++◌, is_some, List, [], ◌∷◌, Some, None, map, filter, length, nat_eq, IsTrue, ◌+◌, if◌then◌else◌}
+use Rattle.std.specs.Prelude.{◌≡◌, ◌≢◌, ◌≤◌, ◌<◌, ◌^◌, ◌*◌, ℕ, suc, zero, Bool, true, false, not, ◌||◌, ◌++◌, is_some, List, [], ◌∷◌, Some, None, map, filter, length, nat_eq, IsTrue, ◌+◌, if◌then◌else◌}
 use Rattle.std.specs.Char.{to_ascii_uppercase}
 use Rattle.std.specs.List.{list_any, list_all, sum_by, Contains}
 use Rattle.std.specs.Str.{bytes_eq}
@@ -203,7 +203,7 @@ variable_parts inner project v =
     else if is_some (kind_named v.ty) then 1
     else (elim (block_named v.ty project) [ Some q ↦ suc (inner q) | None ↦ 1 ])
 
--- the parts of a POU, so many levels deep: its elements, their outputs that feed back, of which each has a connection, and its instances
+-- the parts of a POU, so many levels deep: its elements, their outputs that feed back, and its instances
 abbrev pub parts : ℕ → Project → Pou → ℕ
 parts zero project p = 0
 parts (suc n) project p = sum_by (λ (e : DiagramElement). suc (length e.fed)) p.elements + sum_by (variable_parts (parts n project) project) (variables_of p.lists)
@@ -221,7 +221,8 @@ pub record PouFits (project : Project) (p : Pou) : Type 0 where
   pub count : length p.networks ≤ max_elements
   pub in_outs : Each (InOutsFit p.kind) p.lists
   pub leaves : length (layout (scope_of project p)) ≤ max_leaves
-  pub parts : parts 18 project p ≤ max_parts
+  -- twice the limit of the file, which counts its connections: an output may also feed back by the name of a continuation
+  pub parts : parts 18 project p ≤ 2 * max_parts
   pub addresses : Each (λ (b : Block). Each (λ (d : Declaration). AddressFits d.address) b.declarations) p.lists
 
 -- below a POU stand at most so many levels of user blocks

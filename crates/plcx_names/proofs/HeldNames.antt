@@ -1,14 +1,13 @@
 -- What names hold, as the code answers it.
-use Rattle.std.proofs.Common.{◌≡◌, ℕ, List, Option, Some, None, option_map, option_and_then, refl, sym, ap, ◌∙◌}
+use Rattle.std.proofs.Common.{◌≡◌, ℕ, List, Option, Some, None, option_map, option_and_then, refl, sym, ap}
 use Rattle.plcx_types.specs.Name.{in_lower_case}
 use Rattle.plcx_model.specs.declared.project.VarTy.{VarTy}
 use Rattle.plcx_model.specs.declared.project.VarTy.TheVariants as var
 use Rattle.plcx_model.specs.declared.project.Pou.{Pou}
 use Rattle.plcx_rules.specs.Declarations.{Declaration, declaration_named}
 use Rattle.plcx_rules.specs.Callees.{BlockPin, pin_named, outputs_of_type}
-use Rattle.plcx_rules.specs.Helds.{Held, OfVariable, OfInstance, OfOutput, held_by, name_held, output_held}
+use Rattle.plcx_rules.specs.Helds.{OfOutput, held_by, name_held, output_held}
 use Rattle.plcx_names.specs.declared.variables.Declared.{Declared}
-use Rattle.plcx_names.specs.declared.helds.Held as code
 use Rattle.plcx_names.specs.declared.helds.Held.TheVariants.{Output}
 use Rattle.plcx_names.specs.Seen.{summary, declared_as}
 use Rattle.plcx_names.specs.SeenHelds.{held_as, held_declared}

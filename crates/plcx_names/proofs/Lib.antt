@@ -4,3 +4,4 @@ pub mod Finding
 pub mod HeldNames
 pub mod Named
 pub mod FormalNames
+pub mod HoldingLaws

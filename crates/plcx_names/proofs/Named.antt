@@ -1,8 +1,7 @@
 -- What is found by a name is what is found by the name in lower case.
-use Rattle.std.proofs.Common.{◌≡◌, ℕ, List, Option, option_map, refl, sym, ap}
+use Rattle.std.proofs.Common.{◌≡◌, ℕ, List, option_map, refl}
 use Rattle.std.specs.List.{find, position_from}
 use Rattle.plcx_types.specs.Name.{in_lower_case}
-use Rattle.plcx_types.specs.declared.ty.Ty.{Ty}
 use Rattle.plcx_model.specs.declared.body.BodyElement.{BodyElement}
 use Rattle.plcx_model.specs.declared.body.Kind.{Kind}
 use Rattle.plcx_model.specs.declared.body.Kind.TheVariants as kind

@@ -4,3 +4,4 @@ pub mod Seen
 pub mod SeenHelds
 pub mod Bodies
 pub mod Formals
+pub mod Holdings

@@ -1,5 +1,5 @@
 -- What the code keeps of names, as the definitions see it.
-use Rattle.std.specs.Prelude.{◌≡◌, ℕ, ◌&&◌, Bool, List, Vec, Option, Some, None, map, option_map, option_and_then}
+use Rattle.std.specs.Prelude.{◌≡◌, ℕ, ◌&&◌, Bool, List, Vec, Option, option_map}
 use Rattle.std.specs.declared.alloc.Global.{Global}
 use Rattle.std.specs.List.{find, position_from}
 use Rattle.std.specs.Str.{bytes_eq}

@@ -1,5 +1,5 @@
 -- Serves proofs: what the tables of places tell.
-use Rattle.std.specs.Prelude.{◌≡◌, ℕ, Bool, false, List, Vec, Option, Some, None, nat_eq, if◌then◌else◌}
+use Rattle.std.specs.Prelude.{ℕ, Bool, false, List, Vec, Option, Some, None, nat_eq, if◌then◌else◌}
 use Rattle.std.specs.declared.alloc.Global.{Global}
 use Rattle.std.specs.Map.{lookup}
 use Rattle.std.specs.Str.{bytes_eq}

@@ -8,6 +8,7 @@ ghost use Rattle.plcx_rules.specs.Declarations.{plain_type, same_class};
 ghost use Rattle.plcx_rules.specs.Helds.{name_held, member_held, held_in, text_held};
 ghost use Rattle.plcx_names.specs.Seen.{declared_as};
 ghost use Rattle.plcx_names.specs.SeenHelds.{can_be_written, held_declared, held_as};
+ghost use Rattle.plcx_names.specs.Holdings.{text_holding};
 
 use crate::owner::Owner;
 use crate::pins::same_class;
@@ -173,4 +174,52 @@ pub fn text_held(
     ensures { IfOk result (λ held. held ≡ option_map held_as (text_held scope.now owner.now text.now)) }
 {
     Ok(held_in(alloc, scope, owner, trimmed(text))?)
+}
+
+/// What an element may be by what it holds: whether it holds anything, what an inVariable
+/// or a contact may hold, and a variable that can be written.
+#[derive(Clone, Copy, Debug, PartialEq, Eq)]
+pub struct Holding {
+    pub known: bool,
+    pub value: bool,
+    pub operand: bool,
+    pub target: bool,
+}
+
+/// An element that holds nothing.
+pub const NOTHING: Holding = Holding {
+    known: false,
+    value: false,
+    operand: false,
+    target: false,
+};
+
+fn holding_of(known: bool, value: bool, operand: bool, target: bool) -> Holding
+    ensures { result ≡ record { known = known; value = value; operand = operand; target = target } }
+{
+    Holding {
+        known,
+        value,
+        operand,
+        target,
+    }
+}
+
+/// What an element of this text may be.
+#[tactic(auto, using(crate::proofs::HoldingLaws::holding_is))]
+pub fn text_holding(
+    alloc: Global,
+    scope: &Scope,
+    owner: &Owner,
+    text: &[u8],
+) -> Result<Holding, AllocError>
+    ensures { IfOk result (λ h. h ≡ text_holding scope.now owner.now text.now) }
+{
+    match text_held(alloc, scope, owner, text)? {
+        None => Ok(NOTHING),
+        Some(Held::Instance) => Ok(holding_of(true, false, false, false)),
+        Some(Held::Literal(_literal)) => Ok(holding_of(true, true, false, false)),
+        Some(Held::Output(_)) => Ok(holding_of(true, true, true, false)),
+        Some(Held::Variable { writable, .. }) => Ok(holding_of(true, true, true, writable)),
+    }
 }

@@ -14,7 +14,7 @@ mod tables;
 mod texts;
 mod variables;
 
-pub use helds::{Held, text_held};
+pub use helds::{Held, Holding, NOTHING, text_held, text_holding};
 pub use owner::Owner;
 pub use pins::{OwnPin, standard_pin};
 pub use places::Places;

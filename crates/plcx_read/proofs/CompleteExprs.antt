@@ -13,7 +13,8 @@ use Rattle.plcx_st.specs.declared.tree.Op.{Op}
 use Rattle.plcx_st.specs.declared.tree.Op.TheVariants as op
 use Rattle.plcx_st.specs.declared.tree.Expr.{Expr}
 use Rattle.plcx_st.specs.declared.tree.Expr.TheVariants as e
-use Rattle.plcx_st.specs.Grammar.{word, number, operator, level, tightest, IsExpr, AreExprs, literal, name, member, call, bracket, negation, binary, one_expr, more_exprs}
+use Rattle.plcx_st.specs.Grammar.{word, number, operator, level, IsExpr, AreExprs, literal, name, member, call, bracket, negation, binary, one_expr, more_exprs}
+use Rattle.plcx_st.specs.Binding.{tightest}
 use Rattle.plcx_read.specs.Reading as spec
 use Rattle.plcx_read.specs.Reading.{Stop, too_deep, Out, Read, ◌>>=◌, next, sees, same, expect, room, room_told, name_at, literal_at, with_literal, parted, list_of, several, bracketed, negated, valued, named_by, operand_by, operand, climb, level_of, expr, next_operator, binding, with_operator}
 use Rattle.plcx_read.proofs.Singles.{sees_it, expects, parted_last, parted_more}

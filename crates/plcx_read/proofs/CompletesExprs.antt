@@ -8,7 +8,8 @@ use Rattle.plcx_lex.specs.ReadNumber.{literal_of}
 use Rattle.plcx_lex.specs.declared.terminal.Terminal.{Terminal}
 use Rattle.plcx_lex.specs.declared.terminal.Terminal.TheVariants as t
 use Rattle.plcx_lex.specs.Terminal.{terminal}
-use Rattle.plcx_st.specs.Grammar.{word, number, operator, level, tightest, IsExpr, AreExprs}
+use Rattle.plcx_st.specs.Grammar.{word, number, operator, level, IsExpr, AreExprs}
+use Rattle.plcx_st.specs.Binding.{tightest}
 use Rattle.plcx_st.specs.Grammar as g
 use Rattle.plcx_st.specs.declared.tree.Word.{Word}
 use Rattle.plcx_st.specs.declared.tree.Number.{Number}

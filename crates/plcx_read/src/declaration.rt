@@ -3,9 +3,8 @@ ghost use Rattle.plcx_read.specs.Reading as spec;
 ghost use Rattle.plcx_read.specs.Gives.{Gives};
 
 use crate::lexeme::Lexeme;
-use crate::token::{
-    Part, behind, expect, listed, literal_at, name_at, next, onward, same, sees, unexpected,
-};
+use crate::lists::several_parts;
+use crate::token::{Part, behind, expect, literal_at, name_at, next, same, sees, unexpected};
 use plcx_st::{Decl, Mark, Number, Terminal, TextBlock, TextClass};
 use sqlite_items::Items;
 use std::alloc::Global;
@@ -96,34 +95,26 @@ fn begins_decl(terminal: Terminal) -> bool
 fn decls<'t>(alloc: Global, end: u64, tokens: &'t [Lexeme<'t>]) -> Part<'t, Items<Decl>>
     ensures { Gives end (λ x. (x.0, 0, x.1.now)) result (spec.all_of spec.begins_decl spec.decl tokens.now) }
 {
-    let mut found = Vec::new(alloc);
-    let mut rest = tokens;
-    for _turn in 0..tokens.len() + 1 {
-        if !begins_decl(next(rest)) {
-            return Ok((listed(found), rest));
-        }
-        let (x, after) = decl(alloc, end, rest)?;
-        found.push(x)?;
-        rest = onward(after);
-    }
-    Err(unexpected(end, rest))
+    several_parts!(
+        alloc,
+        end,
+        tokens,
+        begins_decl,
+        |rest| decl(alloc, end, rest)
+    )
 }
 
 #[tactic(auto, unfolding(crate::specs::Reading::several))]
 fn bare_decls<'t>(alloc: Global, end: u64, tokens: &'t [Lexeme<'t>]) -> Part<'t, Items<Decl>>
     ensures { Gives end (λ x. (x.0, 0, x.1.now)) result (spec.all_of spec.begins_decl spec.bare_decl tokens.now) }
 {
-    let mut found = Vec::new(alloc);
-    let mut rest = tokens;
-    for _turn in 0..tokens.len() + 1 {
-        if !begins_decl(next(rest)) {
-            return Ok((listed(found), rest));
-        }
-        let (x, after) = bare_decl(alloc, end, rest)?;
-        found.push(x)?;
-        rest = onward(after);
-    }
-    Err(unexpected(end, rest))
+    several_parts!(
+        alloc,
+        end,
+        tokens,
+        begins_decl,
+        |rest| bare_decl(alloc, end, rest)
+    )
 }
 
 fn mark_at<'t>(tokens: &'t [Lexeme<'t>]) -> (Mark, &'t [Lexeme<'t>])
@@ -213,15 +204,11 @@ fn begins_block(terminal: Terminal) -> bool
 pub fn blocks<'t>(alloc: Global, end: u64, tokens: &'t [Lexeme<'t>]) -> Part<'t, Items<TextBlock>>
     ensures { Gives end (λ x. (x.0, 0, x.1.now)) result (spec.all_of spec.begins_block spec.block tokens.now) }
 {
-    let mut found = Vec::new(alloc);
-    let mut rest = tokens;
-    for _turn in 0..tokens.len() + 1 {
-        if !begins_block(next(rest)) {
-            return Ok((listed(found), rest));
-        }
-        let (x, after) = block(alloc, end, rest)?;
-        found.push(x)?;
-        rest = onward(after);
-    }
-    Err(unexpected(end, rest))
+    several_parts!(
+        alloc,
+        end,
+        tokens,
+        begins_block,
+        |rest| block(alloc, end, rest)
+    )
 }

@@ -1,15 +1,15 @@
 ghost use Rattle.std.specs.Prelude.{◌≡◌, ◌≤◌, ◌<◌, [], ◌+◌, length, ℕ, IfOk};
-ghost use Rattle.plcx_st.specs.Grammar.{operator, level};
+ghost use Rattle.plcx_st.specs.Grammar.{operator};
 ghost use Rattle.plcx_read.specs.Reading as spec;
 ghost use Rattle.plcx_read.specs.Gives.{Gives};
 
 use crate::lexeme::Lexeme;
+use crate::lists::parted;
 use crate::token::{
-    Read, behind, expect, listed, literal_at, name_at, next, onward, room, sees, too_deep,
-    unexpected,
+    Read, behind, expect, literal_at, name_at, next, onward, room, too_deep, unexpected,
 };
 use plcx_lex::TextError;
-use plcx_st::{Expr, Op, Terminal};
+use plcx_st::{Expr, Op, Terminal, level};
 use sqlite_items::{Boxed, Items};
 use std::alloc::{AllocError, Global};
 
@@ -32,21 +32,6 @@ fn operator(terminal: Terminal) -> Option<Op>
         Terminal::Divide => Some(Op::Divide),
         Terminal::Mod => Some(Op::Mod),
         _ => None,
-    }
-}
-
-fn level(op: Op) -> u8
-    ensures value { result ≡ level op }
-    ensures small { result < 7 }
-{
-    match op {
-        Op::Or => 0,
-        Op::Xor => 1,
-        Op::And => 2,
-        Op::Equal | Op::NotEqual => 3,
-        Op::Less | Op::Greater | Op::LessOrEqual | Op::GreaterOrEqual => 4,
-        Op::Plus | Op::Minus => 5,
-        Op::Times | Op::Divide | Op::Mod => 6,
     }
 }
 
@@ -81,21 +66,12 @@ fn arguments<'t>(
     ensures gives { Gives end (λ x. (x.0, x.1, x.2.now)) result (spec.list_of (spec.expr allowance 0) tokens.now) }
     ensures within { IfOk result (λ x. x.1 ≤ allowance) }
 {
-    let mut found = Vec::new(alloc);
-    let mut depth: usize = 0;
-    let mut rest = tokens;
-    for _turn in 0..tokens.len() + 1 {
-        let (x, at, after) = expr(alloc, end, allowance, 0, rest)?;
-        found.push(x)?;
-        depth = depth.max(at);
-        if sees(Terminal::Comma, after) {
-            rest = behind(after);
-        } else {
-            let after = expect(end, Terminal::Close, after)?;
-            return Ok((listed(found), depth, after));
-        }
-    }
-    Err(unexpected(end, rest))
+    parted!(
+        alloc,
+        end,
+        tokens,
+        |rest| expr(alloc, end, allowance, 0, rest)
+    )
 }
 
 #[cycle(expr)]

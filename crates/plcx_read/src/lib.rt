@@ -4,6 +4,7 @@
 mod declaration;
 mod expression;
 mod lexeme;
+mod lists;
 mod place;
 mod printed;
 mod statement;

@@ -4,9 +4,8 @@ ghost use Rattle.plcx_read.specs.Gives.{Gives};
 
 use crate::expression::expr;
 use crate::lexeme::Lexeme;
-use crate::token::{
-    Read, behind, expect, listed, next, onward, room, same, sees, too_deep, unexpected,
-};
+use crate::lists::{parted, several};
+use crate::token::{Read, behind, expect, next, room, same, sees, too_deep, unexpected};
 use plcx_lex::TextError;
 use plcx_st::{Arg, Arm, Expr, Stmt, Terminal};
 use sqlite_items::Items;
@@ -72,21 +71,12 @@ fn arguments<'t>(
     ensures gives { Gives end (λ x. (x.0, x.1, x.2.now)) result (spec.list_of (spec.argument allowance) tokens.now) }
     ensures within { IfOk result (λ x. x.1 ≤ allowance) }
 {
-    let mut found = Vec::new(alloc);
-    let mut depth: usize = 0;
-    let mut rest = tokens;
-    for _turn in 0..tokens.len() + 1 {
-        let (x, at, after) = argument(alloc, end, allowance, rest)?;
-        found.push(x)?;
-        depth = depth.max(at);
-        if sees(Terminal::Comma, after) {
-            rest = behind(after);
-        } else {
-            let after = expect(end, Terminal::Close, after)?;
-            return Ok((listed(found), depth, after));
-        }
-    }
-    Err(unexpected(end, rest))
+    parted!(
+        alloc,
+        end,
+        tokens,
+        |rest| argument(alloc, end, allowance, rest)
+    )
 }
 
 #[tactic(auto, unfolding(crate::specs::Reading::called_bare, crate::specs::Reading::called_with))]
@@ -241,19 +231,13 @@ fn arms<'t>(
     ensures gives { Gives end (λ x. (x.0, x.1, x.2.now)) result (spec.all_of spec.is_digits (spec.arm (spec.statements allowance)) tokens.now) }
     ensures within { IfOk result (λ x. x.1 ≤ allowance) }
 {
-    let mut found = Vec::new(alloc);
-    let mut depth: usize = 0;
-    let mut rest = tokens;
-    for _turn in 0..tokens.len() + 1 {
-        if !begins_arm(next(rest)) {
-            return Ok((listed(found), depth, rest));
-        }
-        let (x, at, after) = arm(alloc, end, allowance, rest)?;
-        found.push(x)?;
-        depth = depth.max(at);
-        rest = onward(after);
-    }
-    Err(unexpected(end, rest))
+    several!(
+        alloc,
+        end,
+        tokens,
+        begins_arm,
+        |rest| arm(alloc, end, allowance, rest)
+    )
 }
 
 #[cycle(statement)]
@@ -339,17 +323,11 @@ pub fn statements<'t>(
     ensures gives { Gives end (λ x. (x.0, x.1, x.2.now)) result (spec.statements allowance tokens.now) }
     ensures within { IfOk result (λ x. x.1 ≤ allowance) }
 {
-    let mut found = Vec::new(alloc);
-    let mut depth: usize = 0;
-    let mut rest = tokens;
-    for _turn in 0..tokens.len() + 1 {
-        if !begins_stmt(next(rest)) {
-            return Ok((listed(found), depth, rest));
-        }
-        let (x, at, after) = statement(alloc, end, allowance, rest)?;
-        found.push(x)?;
-        depth = depth.max(at);
-        rest = onward(after);
-    }
-    Err(unexpected(end, rest))
+    several!(
+        alloc,
+        end,
+        tokens,
+        begins_stmt,
+        |rest| statement(alloc, end, allowance, rest)
+    )
 }

@@ -5,8 +5,9 @@ ghost use Rattle.plcx_read.specs.Gives.{Gives};
 
 use crate::declaration::blocks;
 use crate::lexeme::Lexeme;
+use crate::lists::several;
 use crate::statement::statements;
-use crate::token::{Read, behind, expect, listed, name_at, next, onward, too_deep, unexpected};
+use crate::token::{Read, behind, expect, name_at, too_deep, unexpected};
 use plcx_lex::TextError;
 use plcx_st::{PouText, Terminal, TextKind};
 use sqlite_items::Items;
@@ -84,19 +85,13 @@ fn several<'t>(
     ensures gives { Gives end (λ x. (x.0, x.1, x.2.now)) result (spec.all_of spec.begins_pou (spec.pou allowance) tokens.now) }
     ensures within { IfOk result (λ x. x.1 ≤ allowance) }
 {
-    let mut found = Vec::new(alloc);
-    let mut depth: usize = 0;
-    let mut rest = tokens;
-    for _turn in 0..tokens.len() + 1 {
-        if !begins_pou(next(rest)) {
-            return Ok((listed(found), depth, rest));
-        }
-        let (x, at, after) = pou(alloc, end, allowance, rest)?;
-        found.push(x)?;
-        depth = depth.max(at);
-        rest = onward(after);
-    }
-    Err(unexpected(end, rest))
+    several!(
+        alloc,
+        end,
+        tokens,
+        begins_pou,
+        |rest| pou(alloc, end, allowance, rest)
+    )
 }
 
 /// The POUs that all of the tokens are, each of at most that depth.

@@ -17,10 +17,11 @@ fn fault_of(alloc: Global, file: &[u8]) -> (u8, u64) {
     }
 }
 
-fn root_of(alloc: Global, file: &[u8]) -> Result<Element, Fail> {
+fn root_of(alloc: Global, file: &[u8]) -> Result<Element<'_>, Fail> {
     match read_tree(alloc, file) {
         Ok(Node::Element(root)) => Ok(root),
-        _ => Err(Fail::from("the file has no tree")),
+        Ok(Node::Text(_text)) => Err(Fail::from("the file has no element")),
+        Err(_fault) => Err(Fail::from("the file has no tree")),
     }
 }
 

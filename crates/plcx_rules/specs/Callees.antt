@@ -126,10 +126,11 @@ formal name c = record { name = name; class = c }
 abbrev pub fixed : BlockPin → Formal
 fixed p = formal p.name (class.Fixed p.ty)
 
--- EN, an input of every block, and ENO, an output of every block
+-- EN, an input of every block
 abbrev pub enable : Formal
 enable = formal (codes "EN") (class.Fixed ty.Bool)
 
+-- ENO, an output of every block
 abbrev pub enabled : Formal
 enabled = formal (codes "ENO") (class.Fixed ty.Bool)
 

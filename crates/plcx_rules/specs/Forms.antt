@@ -4,7 +4,6 @@ use Rattle.std.specs.List.{list_any, filter}
 use Rattle.plcx_types.specs.declared.ty.Ty.{Ty}
 use Rattle.plcx_types.specs.declared.ty.Ty.TheVariants as ty
 use Rattle.plcx_types.specs.declared.literal.Literal.TheVariants as literal
-use Rattle.plcx_funcs.specs.declared.func.Func.{Func}
 use Rattle.plcx_funcs.specs.declared.allowed.Allowed.{Allowed}
 use Rattle.plcx_funcs.specs.declared.allowed.Allowed.TheVariants as set
 use Rattle.plcx_funcs.specs.declared.pins.Class.{Class}

@@ -10,6 +10,9 @@ pub mod Types
 pub mod Forms
 pub mod TypingRules
 pub mod Typed
+pub mod CheckVerdict
+-- What is said of the definitions alone.
+pub mod Laws
 -- Worked examples.
 pub mod Pieces
 pub mod LinkExamples

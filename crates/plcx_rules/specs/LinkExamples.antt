@@ -3,6 +3,8 @@ use Rattle.std.specs.Prelude.{true, false, List, [], ◌∷◌, ◌++◌, Some, 
 use Rattle.plcx_model.specs.declared.body.Kind.TheVariants as kind
 use Rattle.plcx_model.specs.declared.project.PouKind.TheVariants.{Program, FunctionBlock}
 use Rattle.plcx_model.specs.declared.project.Pou.{Pou}
+use Rattle.plcx_model.specs.declared.source.Source.{Source}
+use Rattle.plcx_rules.specs.Sources.{source}
 use Rattle.plcx_rules.specs.Pieces.{pou, inc, main_lists, functions, ladder, negated, rising, set, element, to, to_output, reads, writes, contact, pin, output, block, function, timer, call}
 
 -- ---- references and outputs
@@ -33,7 +35,11 @@ unknown_reference_at_a_rail = ladder (element 1 kind.LeftRail ∷ element 2 (kin
 
 -- a producer of two outputs that is named with none of them
 abbrev pub output_of_two : List Pou
-output_of_two = functions (reads 1 (codes "A") ∷ writes 2 (codes "B") (to (3 ∷ [])) ∷ timer 3 [] (output (codes "Q") ∷ output (codes "ET") ∷ []) ∷ [])
+output_of_two = functions (
+    reads 1 (codes "A")
+    ∷ writes 2 (codes "B") (to (3 ∷ []))
+    ∷ timer 3 [] (output (codes "Q") ∷ output (codes "ET") ∷ [])
+    ∷ [])
 
 -- one that is named with one of them, in any case
 abbrev pub output_named : List Pou
@@ -49,19 +55,36 @@ output_of_a_connector = functions (reads 1 (codes "A") ∷ element 2 (kind.Conne
 
 -- a continuation of it
 abbrev pub output_of_a_continuation : List Pou
-output_of_a_continuation = functions (reads 1 (codes "A") ∷ element 2 (kind.Connector (codes "W") (to (1 ∷ []))) ∷ element 4 (kind.Continuation (codes "w")) ∷ writes 3 (codes "B") (to (4 ∷ [])) ∷ [])
+output_of_a_continuation = functions (
+    reads 1 (codes "A")
+    ∷ element 2 (kind.Connector (codes "W") (to (1 ∷ [])))
+    ∷ element 4 (kind.Continuation (codes "w"))
+    ∷ writes 3 (codes "B") (to (4 ∷ []))
+    ∷ [])
 
 -- a function's one result under another name, named as OUT
 abbrev pub result_of_another_name : List Pou
-result_of_another_name = functions (reads 1 (codes "N") ∷ function 2 (codes "ADD") (pin (codes "IN1") (to (1 ∷ [])) ∷ pin (codes "IN2") (to (1 ∷ [])) ∷ []) (output (codes "Out1") ∷ output (codes "ENO") ∷ []) ∷ writes 3 (codes "N") (to_output 2 (codes "OUT")) ∷ [])
+result_of_another_name = functions (
+    reads 1 (codes "N")
+    ∷ function 2 (codes "ADD") (pin (codes "IN1") (to (1 ∷ [])) ∷ pin (codes "IN2") (to (1 ∷ [])) ∷ []) (output (codes "Out1") ∷ output (codes "ENO") ∷ [])
+    ∷ writes 3 (codes "N") (to_output 2 (codes "OUT"))
+    ∷ [])
 
 -- one without a name, beside ENO
 abbrev pub result_of_no_name : List Pou
-result_of_no_name = functions (reads 1 (codes "N") ∷ function 2 (codes "ADD") (pin (codes "IN1") (to (1 ∷ [])) ∷ pin (codes "IN2") (to (1 ∷ [])) ∷ []) (output (codes "ENO") ∷ output [] ∷ []) ∷ writes 3 (codes "N") (to_output 2 (codes "out")) ∷ [])
+result_of_no_name = functions (
+    reads 1 (codes "N")
+    ∷ function 2 (codes "ADD") (pin (codes "IN1") (to (1 ∷ [])) ∷ pin (codes "IN2") (to (1 ∷ [])) ∷ []) (output (codes "ENO") ∷ output [] ∷ [])
+    ∷ writes 3 (codes "N") (to_output 2 (codes "out"))
+    ∷ [])
 
 -- ENO is an output like others where a name is wanted
 abbrev pub result_and_eno : List Pou
-result_and_eno = functions (reads 1 (codes "N") ∷ function 2 (codes "ADD") (pin (codes "IN1") (to (1 ∷ [])) ∷ pin (codes "IN2") (to (1 ∷ [])) ∷ []) (output (codes "OUT") ∷ output (codes "ENO") ∷ []) ∷ writes 3 (codes "N") (to (2 ∷ [])) ∷ [])
+result_and_eno = functions (
+    reads 1 (codes "N")
+    ∷ function 2 (codes "ADD") (pin (codes "IN1") (to (1 ∷ [])) ∷ pin (codes "IN2") (to (1 ∷ [])) ∷ []) (output (codes "OUT") ∷ output (codes "ENO") ∷ [])
+    ∷ writes 3 (codes "N") (to (2 ∷ []))
+    ∷ [])
 
 -- an unknown block has the outputs that it lists
 abbrev pub output_of_an_unknown_block : List Pou
@@ -151,11 +174,17 @@ no_instance_of_a_function = functions (reads 1 (codes "N") ∷ function 3 (codes
 
 -- a gap in the inputs
 abbrev pub gap_in_the_inputs : List Pou
-gap_in_the_inputs = functions (reads 1 (codes "N") ∷ function 2 (codes "ADD") (pin (codes "IN1") (to (1 ∷ [])) ∷ pin (codes "IN3") (to (1 ∷ [])) ∷ []) [] ∷ [])
+gap_in_the_inputs = functions (
+    reads 1 (codes "N")
+    ∷ function 2 (codes "ADD") (pin (codes "IN1") (to (1 ∷ [])) ∷ pin (codes "IN3") (to (1 ∷ [])) ∷ []) []
+    ∷ [])
 
 -- inputs in any order and case
 abbrev pub no_gap_in_the_inputs : List Pou
-no_gap_in_the_inputs = functions (reads 1 (codes "N") ∷ function 2 (codes "add") (pin (codes "in2") (to (1 ∷ [])) ∷ pin (codes "IN3") (to (1 ∷ [])) ∷ pin (codes "IN1") (to (1 ∷ [])) ∷ []) [] ∷ [])
+no_gap_in_the_inputs = functions (
+    reads 1 (codes "N")
+    ∷ function 2 (codes "add") (pin (codes "in2") (to (1 ∷ [])) ∷ pin (codes "IN3") (to (1 ∷ [])) ∷ pin (codes "IN1") (to (1 ∷ [])) ∷ []) []
+    ∷ [])
 
 -- an extensible function has two inputs
 abbrev pub one_input_of_two : List Pou
@@ -163,15 +192,24 @@ one_input_of_two = functions (reads 1 (codes "N") ∷ function 2 (codes "ADD") (
 
 -- a number of an input has no leading zero
 abbrev pub leading_zero : List Pou
-leading_zero = functions (reads 1 (codes "N") ∷ function 2 (codes "ADD") (pin (codes "IN1") (to (1 ∷ [])) ∷ pin (codes "IN02") (to (1 ∷ [])) ∷ []) [] ∷ [])
+leading_zero = functions (
+    reads 1 (codes "N")
+    ∷ function 2 (codes "ADD") (pin (codes "IN1") (to (1 ∷ [])) ∷ pin (codes "IN02") (to (1 ∷ [])) ∷ []) []
+    ∷ [])
 
 -- a multiplexer has a selector
 abbrev pub selector_missing : List Pou
-selector_missing = functions (reads 1 (codes "N") ∷ function 2 (codes "MUX") (pin (codes "IN0") (to (1 ∷ [])) ∷ pin (codes "IN1") (to (1 ∷ [])) ∷ pin (codes "IN2") (to (1 ∷ [])) ∷ []) [] ∷ [])
+selector_missing = functions (
+    reads 1 (codes "N")
+    ∷ function 2 (codes "MUX") (pin (codes "IN0") (to (1 ∷ [])) ∷ pin (codes "IN1") (to (1 ∷ [])) ∷ pin (codes "IN2") (to (1 ∷ [])) ∷ []) []
+    ∷ [])
 
 -- and two others
 abbrev pub selector_given : List Pou
-selector_given = functions (reads 1 (codes "N") ∷ function 2 (codes "MUX") (pin (codes "IN1") (to (1 ∷ [])) ∷ pin (codes "K") (to (1 ∷ [])) ∷ pin (codes "IN0") (to (1 ∷ [])) ∷ []) [] ∷ [])
+selector_given = functions (
+    reads 1 (codes "N")
+    ∷ function 2 (codes "MUX") (pin (codes "IN1") (to (1 ∷ [])) ∷ pin (codes "K") (to (1 ∷ [])) ∷ pin (codes "IN0") (to (1 ∷ [])) ∷ []) []
+    ∷ [])
 
 -- two connected ENs
 abbrev pub two_enables : List Pou
@@ -179,7 +217,10 @@ two_enables = functions (reads 1 (codes "A") ∷ timer 2 (pin (codes "EN") (to (
 
 -- an unconnected EN counts as absent
 abbrev pub two_enables_of_which_one_counts : List Pou
-two_enables_of_which_one_counts = functions (reads 1 (codes "A") ∷ timer 2 (pin (codes "EN") [] ∷ pin (codes "en") (to (1 ∷ [])) ∷ pin (codes "EN") [] ∷ []) [] ∷ [])
+two_enables_of_which_one_counts = functions (
+    reads 1 (codes "A")
+    ∷ timer 2 (pin (codes "EN") [] ∷ pin (codes "en") (to (1 ∷ [])) ∷ pin (codes "EN") [] ∷ []) []
+    ∷ [])
 
 -- EN is no output
 abbrev pub enable_as_output : List Pou
@@ -195,15 +236,24 @@ hidden_leaf = functions (reads 1 (codes "A") ∷ timer 2 (pin (codes "RUN") (to 
 
 -- a function has one result
 abbrev pub second_result : List Pou
-second_result = functions (reads 1 (codes "N") ∷ function 2 (codes "ABS") (pin (codes "IN") (to (1 ∷ [])) ∷ []) (output (codes "OUT") ∷ output (codes "X") ∷ []) ∷ [])
+second_result = functions (
+    reads 1 (codes "N")
+    ∷ function 2 (codes "ABS") (pin (codes "IN") (to (1 ∷ [])) ∷ []) (output (codes "OUT") ∷ output (codes "X") ∷ [])
+    ∷ [])
 
 -- a second one without a name is doubled
 abbrev pub two_results_of_no_name : List Pou
-two_results_of_no_name = functions (reads 1 (codes "N") ∷ function 2 (codes "ABS") (pin (codes "IN") (to (1 ∷ [])) ∷ []) (output [] ∷ output [] ∷ []) ∷ [])
+two_results_of_no_name = functions (
+    reads 1 (codes "N")
+    ∷ function 2 (codes "ABS") (pin (codes "IN") (to (1 ∷ [])) ∷ []) (output [] ∷ output [] ∷ [])
+    ∷ [])
 
 -- one result of any name, and ENO
 abbrev pub result_listed : List Pou
-result_listed = functions (reads 1 (codes "N") ∷ function 2 (codes "ABS") (pin (codes "IN") (to (1 ∷ [])) ∷ []) (output (codes "X") ∷ output (codes "eno") ∷ []) ∷ [])
+result_listed = functions (
+    reads 1 (codes "N")
+    ∷ function 2 (codes "ABS") (pin (codes "IN") (to (1 ∷ [])) ∷ []) (output (codes "X") ∷ output (codes "eno") ∷ [])
+    ∷ [])
 
 -- an in-out is missing
 abbrev pub in_out_missing : List Pou
@@ -211,19 +261,31 @@ in_out_missing = functions (block 2 (codes "Inc") (Some (codes "K")) [] [] [] �
 
 -- an in-out is doubled
 abbrev pub in_out_twice : List Pou
-in_out_twice = functions (reads 1 (codes "N") ∷ block 2 (codes "Inc") (Some (codes "K")) [] (pin (codes "V") (to (1 ∷ [])) ∷ pin (codes "v") (to (1 ∷ [])) ∷ []) [] ∷ [])
+in_out_twice = functions (
+    reads 1 (codes "N")
+    ∷ block 2 (codes "Inc") (Some (codes "K")) [] (pin (codes "V") (to (1 ∷ [])) ∷ pin (codes "v") (to (1 ∷ [])) ∷ []) []
+    ∷ [])
 
 -- an in-out is no input
 abbrev pub in_out_as_input : List Pou
-in_out_as_input = functions (reads 1 (codes "N") ∷ block 2 (codes "Inc") (Some (codes "K")) (pin (codes "V") (to (1 ∷ [])) ∷ []) (pin (codes "V") (to (1 ∷ [])) ∷ []) [] ∷ [])
+in_out_as_input = functions (
+    reads 1 (codes "N")
+    ∷ block 2 (codes "Inc") (Some (codes "K")) (pin (codes "V") (to (1 ∷ [])) ∷ []) (pin (codes "V") (to (1 ∷ [])) ∷ []) []
+    ∷ [])
 
 -- a local variable is no pin
 abbrev pub local_as_a_pin : List Pou
-local_as_a_pin = functions (reads 1 (codes "N") ∷ block 2 (codes "Inc") (Some (codes "K")) (pin (codes "L") (to (1 ∷ [])) ∷ []) (pin (codes "V") (to (1 ∷ [])) ∷ []) [] ∷ [])
+local_as_a_pin = functions (
+    reads 1 (codes "N")
+    ∷ block 2 (codes "Inc") (Some (codes "K")) (pin (codes "L") (to (1 ∷ [])) ∷ []) (pin (codes "V") (to (1 ∷ [])) ∷ []) []
+    ∷ [])
 
 -- pins in any case
 abbrev pub pins_of_a_block : List Pou
-pins_of_a_block = functions (reads 1 (codes "N") ∷ block 2 (codes "Inc") (Some (codes "K")) (pin (codes "d") (to (1 ∷ [])) ∷ []) (pin (codes "V") (to (1 ∷ [])) ∷ []) (output (codes "q") ∷ []) ∷ [])
+pins_of_a_block = functions (
+    reads 1 (codes "N")
+    ∷ block 2 (codes "Inc") (Some (codes "K")) (pin (codes "d") (to (1 ∷ [])) ∷ []) (pin (codes "V") (to (1 ∷ [])) ∷ []) (output (codes "q") ∷ [])
+    ∷ [])
 
 -- ---- expressions and targets
 
@@ -313,17 +375,29 @@ in_out_of_a_constant = functions (reads 1 (codes "C") ∷ call 2 (to (1 ∷ []))
 
 -- and is an inVariable
 abbrev pub in_out_of_a_function : List Pou
-in_out_of_a_function = functions (reads 1 (codes "N") ∷ call 2 (to (3 ∷ [])) ∷ function 3 (codes "ABS") (pin (codes "IN") (to (1 ∷ [])) ∷ []) (output [] ∷ []) ∷ [])
+in_out_of_a_function = functions (
+    reads 1 (codes "N")
+    ∷ call 2 (to (3 ∷ []))
+    ∷ function 3 (codes "ABS") (pin (codes "IN") (to (1 ∷ [])) ∷ []) (output [] ∷ [])
+    ∷ [])
 
 -- ---- connectors and labels
 
 -- a connector is doubled, whatever the case
 abbrev pub connector_twice : List Pou
-connector_twice = functions (reads 1 (codes "A") ∷ element 2 (kind.Connector (codes "W") (to (1 ∷ []))) ∷ element 3 (kind.Connector (codes "w") (to (1 ∷ []))) ∷ [])
+connector_twice = functions (
+    reads 1 (codes "A")
+    ∷ element 2 (kind.Connector (codes "W") (to (1 ∷ [])))
+    ∷ element 3 (kind.Connector (codes "w") (to (1 ∷ [])))
+    ∷ [])
 
 -- names are not trimmed
 abbrev pub connectors_of_two_names : List Pou
-connectors_of_two_names = functions (reads 1 (codes "A") ∷ element 2 (kind.Connector (codes "W") (to (1 ∷ []))) ∷ element 3 (kind.Connector (codes "w ") (to (1 ∷ []))) ∷ [])
+connectors_of_two_names = functions (
+    reads 1 (codes "A")
+    ∷ element 2 (kind.Connector (codes "W") (to (1 ∷ [])))
+    ∷ element 3 (kind.Connector (codes "w ") (to (1 ∷ [])))
+    ∷ [])
 
 -- a continuation has no connector
 abbrev pub continuation_of_nothing : List Pou
@@ -331,7 +405,11 @@ continuation_of_nothing = functions (element 2 (kind.Continuation (codes "W")) �
 
 -- the connector may stand behind
 abbrev pub continuation_before_its_connector : List Pou
-continuation_before_its_connector = functions (element 2 (kind.Continuation (codes "W")) ∷ reads 1 (codes "A") ∷ element 3 (kind.Connector (codes "W") (to (1 ∷ []))) ∷ [])
+continuation_before_its_connector = functions (
+    element 2 (kind.Continuation (codes "W"))
+    ∷ reads 1 (codes "A")
+    ∷ element 3 (kind.Connector (codes "W") (to (1 ∷ [])))
+    ∷ [])
 
 -- a label is doubled
 abbrev pub label_twice : List Pou
@@ -397,7 +475,10 @@ absent_enable_that_stores = functions (timer 2 (record { formal = codes "EN"; mo
 
 -- an in-out has no modifiers
 abbrev pub in_out_negated : List Pou
-in_out_negated = functions (reads 1 (codes "N") ∷ block 2 (codes "Inc") (Some (codes "K")) [] (record { formal = codes "V"; mods = negated; input = to (1 ∷ []) } ∷ []) [] ∷ [])
+in_out_negated = functions (
+    reads 1 (codes "N")
+    ∷ block 2 (codes "Inc") (Some (codes "K")) [] (record { formal = codes "V"; mods = negated; input = to (1 ∷ []) } ∷ []) []
+    ∷ [])
 
 -- nor has its source, and the block is named
 abbrev pub in_out_of_a_negated_value : List Pou
@@ -426,3 +507,31 @@ rails_before_modifiers = functions (reads 1 (codes "A") ∷ element 2 (kind.Righ
 -- the rule that is tested first is told, though another is broken before it
 abbrev pub later_pou_first : List Pou
 later_pou_first = functions (writes 2 (codes "B") (to (9 ∷ [])) ∷ []) ++ pou Program (codes "Next") main_lists false (reads 7 (codes "A") ∷ reads 7 (codes "A") ∷ []) ∷ []
+
+-- ---- sources
+
+-- a ladder with an unconnected EN, an in-out behind an input, a continuation, two sources at a pin, and a named output
+abbrev pub wired : List Pou
+wired = ladder (
+    reads 1 (codes "A")
+    ∷ element 2 (kind.Connector (codes "W") (to (1 ∷ [])))
+    ∷ element 3 (kind.Continuation (codes "w"))
+    ∷ block 4 (codes "Inc") (Some (codes "K")) (pin (codes "EN") [] ∷ pin (codes "D") (to (5 ∷ [])) ∷ []) (pin (codes "V") (to (5 ∷ [])) ∷ []) []
+    ∷ reads 5 (codes "N")
+    ∷ timer 6 (pin (codes "IN") (to (1 ∷ 3 ∷ [])) ∷ []) (output (codes "Q") ∷ output (codes "ET") ∷ [])
+    ∷ writes 7 (codes "B") (to_output 6 (codes "et"))
+    ∷ [])
+
+-- the sources of each input pin: of the connector, the continuation, EN, D, V, IN and the outVariable
+abbrev pub wired_sources : List (List (List Source))
+wired_sources = (
+    (source 0 0 ∷ []) ∷ (source 1 0 ∷ []) ∷ [] ∷ (source 4 0 ∷ []) ∷ (source 4 0 ∷ []) ∷ (source 0 0 ∷ source 2 0 ∷ []) ∷ (source 5 1 ∷ []) ∷ [])
+    ∷ [] ∷ []
+
+-- connections to nothing have no source, and a continuation without its connector has none either
+abbrev pub loose : List Pou
+loose = functions (element 1 (kind.Continuation (codes "W")) ∷ writes 2 (codes "B") (to (9 ∷ 2 ∷ 1 ∷ [])) ∷ [])
+
+-- the continuation alone is one
+abbrev pub loose_sources : List (List (List Source))
+loose_sources = ([] ∷ (source 0 0 ∷ []) ∷ []) ∷ [] ∷ []

@@ -89,11 +89,12 @@ instance_suits p (callee.Function f) instance = is_none instance
 instance_suits p c None = false
 instance_suits p c (Some name) = leads_to c (declaration_named p name)
 
--- 26. A block's instance doesn't suit what it calls.
+-- the instance doesn't suit; nothing is said of an unknown block
 abbrev pub instance_fails : Pou → Option Callee → Option (List ℕ) → Bool
 instance_fails p None instance = false
 instance_fails p (Some c) instance = not (instance_suits p c instance)
 
+-- 26. A function block's instance is missing, unknown or of another type, or a function has one.
 unfoldable pub breaks_instance : List Pou → Pou → Kind → Bool
 breaks_instance pous p (kind.Block type_name instance inputs in_outs outputs) = instance_fails p (callee_named pous type_name) instance
 breaks_instance pous p _ = false
@@ -138,11 +139,12 @@ outputs_fail pous c outputs =
     list_any (λ (o : PinOut). is_none (output_formal pous c outputs o)) outputs
     || has_double (map (output_name (is_function c) outputs) outputs)
 
--- 27. A formal parameter is unknown or doubled at its side, or one is missing that a function needs or that is an in-out of a function block.
+-- one of the sides fails; nothing is said of an unknown block
 abbrev pub formals_fail : List Pou → Option Callee → List PinIn → List PinIn → List PinOut → Bool
 formals_fail pous None inputs in_outs outputs = false
 formals_fail pous (Some c) inputs in_outs outputs = inputs_fail pous c inputs || in_outs_fail pous c in_outs || outputs_fail pous c outputs
 
+-- 27. A formal parameter is unknown or doubled at its side, or one is missing that a function needs or that is an in-out of a function block.
 unfoldable pub breaks_formals : List Pou → Kind → Bool
 breaks_formals pous (kind.Block type_name instance inputs in_outs outputs) = formals_fail pous (callee_named pous type_name) inputs in_outs outputs
 breaks_formals pous _ = false
@@ -193,12 +195,13 @@ breaks_label x (kind.Label name) = is_among (is_label_named name) (earlier x)
 breaks_label x (kind.Jump label input) = not (is_among (is_label_named label) x.owner.body.elements)
 breaks_label x _ = false
 
--- an edge, and `set` or `reset`, among modifiers
+-- rising or falling
 abbrev pub is_edge : Edge → Bool
 is_edge edge.Plain = false
 is_edge edge.Rising = true
 is_edge edge.Falling = true
 
+-- set or reset
 abbrev pub is_stored : Storage → Bool
 is_stored storage.Plain = false
 is_stored storage.Set = true

@@ -25,18 +25,23 @@ use Rattle.plcx_model.specs.declared.project.Pou.{Pou}
 
 -- ---- declarations
 
+-- a variable of a type
 abbrev pub variable : List ℕ → VarTy → Variable
 variable name t = record { name = name; address = None; ty = t; initial = None }
 
+-- a variable of BOOL
 abbrev pub boolean : List ℕ → Variable
 boolean name = variable name (var.Plain ty.Bool)
 
+-- a variable of INT
 abbrev pub integer : List ℕ → Variable
 integer name = variable name (var.Plain ty.Int)
 
+-- a list that is neither constant nor retained
 abbrev pub listed : ListClass → List Variable → VarList
 listed class variables = record { class = class; constant = false; retain = false; variables = variables }
 
+-- a POU by its parts
 abbrev pub pou : PouKind → List ℕ → List VarList → Bool → List BodyElement → Pou
 pou k name lists ladder elements = record { name = name; kind = k; lists = lists; body = record { ladder = ladder; elements = elements } }
 
@@ -55,9 +60,11 @@ main_lists = listed class.Local (boolean (codes "A") ∷ boolean (codes "B") ∷
 abbrev pub with_main : (ladder : Bool) → List BodyElement → List Pou
 with_main ladder elements = pou Program (codes "Main") main_lists ladder elements ∷ inc ∷ []
 
+-- a function block diagram as the body of Main
 abbrev pub functions : List BodyElement → List Pou
 functions elements = with_main false elements
 
+-- a ladder diagram as the body of Main
 abbrev pub ladder : List BodyElement → List Pou
 ladder elements = with_main true elements
 
@@ -67,20 +74,25 @@ at id = place.Element (codes "Main") id
 
 -- ---- modifiers
 
+-- no modifier
 abbrev pub mods : Mods
 mods = record { negated = false; edge = edge.Plain; storage = storage.Plain }
 
+-- a negation
 abbrev pub negated : Mods
 negated = record mods { negated = true }
 
+-- a rising edge
 abbrev pub rising : Mods
 rising = record mods { edge = edge.Rising }
 
+-- storage that sets
 abbrev pub set : Mods
 set = record mods { storage = storage.Set }
 
 -- ---- elements
 
+-- an element by its localId
 abbrev pub element : ℕ → Kind → BodyElement
 element id k = record { local_id = id; order = None; x = pos 0; y = pos 0; kind = k }
 
@@ -92,15 +104,19 @@ to ids = map (λ (id : ℕ). let c : Connection = record { element = id; formal 
 abbrev pub to_output : ℕ → List ℕ → List Connection
 to_output id name = record { element = id; formal = name } ∷ []
 
+-- an inVariable
 abbrev pub reads : ℕ → List ℕ → BodyElement
 reads id text = element id (kind.In text mods)
 
+-- an outVariable
 abbrev pub writes : ℕ → List ℕ → List Connection → BodyElement
 writes id text input = element id (kind.Out input text mods)
 
+-- a contact
 abbrev pub contact : ℕ → List ℕ → List Connection → BodyElement
 contact id text input = element id (kind.Contact input text mods)
 
+-- a coil
 abbrev pub coil : ℕ → List ℕ → List Connection → BodyElement
 coil id text input = element id (kind.Coil input text mods)
 
@@ -110,12 +126,15 @@ coil id text input = element id (kind.Coil input text mods)
 abbrev pub pin : List ℕ → List Connection → PinIn
 pin name input = record { formal = name; mods = mods; input = input }
 
+-- a listed output
 abbrev pub output : List ℕ → PinOut
 output name = record { formal = name; mods = mods }
 
+-- a block by its parts
 abbrev pub block : ℕ → List ℕ → Option (List ℕ) → List PinIn → List PinIn → List PinOut → BodyElement
 block id type_name instance inputs in_outs outputs = element id (kind.Block type_name instance inputs in_outs outputs)
 
+-- a function
 abbrev pub function : ℕ → List ℕ → List PinIn → List PinOut → BodyElement
 function id type_name inputs outputs = block id type_name None inputs [] outputs
 

@@ -12,8 +12,7 @@ use Rattle.plcx_rules.specs.declared.form.Gives.TheVariants.{Typed, Grouped, Unt
 use Rattle.plcx_rules.specs.declared.form.Out.{Out}
 use Rattle.plcx_rules.specs.declared.form.Outputs.{Outputs}
 use Rattle.plcx_rules.specs.declared.form.Outputs.TheVariants.{Absent, Single, Listed}
-use Rattle.plcx_rules.specs.declared.form.Grouping.{Grouping}
-use Rattle.plcx_rules.specs.declared.form.Grouping.TheVariants.{Apart, Function, Passing}
+use Rattle.plcx_rules.specs.declared.form.Grouping.TheVariants.{Apart}
 use Rattle.plcx_rules.specs.declared.form.Form.{Form}
 use Rattle.plcx_rules.specs.declared.form.WireForm.{WireForm}
 

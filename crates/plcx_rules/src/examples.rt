@@ -3,6 +3,7 @@ ghost use Rattle.std.specs.Prelude.{◌≡◌, Some, None, codes};
 ghost use Rattle.plcx_model.specs.declared.broken.Place.TheVariants.{Element};
 ghost use Rattle.plcx_rules.specs.declared.rule.LinkRule.TheVariants as rule;
 ghost use Rattle.plcx_rules.specs.LinkRules.{link_answer};
+ghost use Rattle.plcx_rules.specs.Sources.{links_of};
 ghost use Rattle.plcx_rules.specs.Pieces.{at};
 ghost use Rattle.plcx_rules.specs.LinkExamples as examples;
 
@@ -134,4 +135,11 @@ pub fn examples_of_modifiers()
     ensures contact_in_a_ladder { link_answer examples.contact_in_a_ladder ≡ None }
     ensures rails_before_modifiers { link_answer examples.rails_before_modifiers ≡ Some (rule.Several, at 2) }
     ensures later_pou_first { link_answer examples.later_pou_first ≡ Some (rule.LocalIds, Element (codes "Next") 7) }
+{}
+
+/// The sources of each input pin, in the order of the pins. What leads to nothing has none.
+pub fn examples_of_sources()
+    ensures wired { links_of examples.wired ≡ examples.wired_sources }
+    ensures wired_is_kept { link_answer examples.wired ≡ None }
+    ensures loose { links_of examples.loose ≡ examples.loose_sources }
 {}

@@ -7,7 +7,7 @@ use Rattle.plcx_types.specs.Value.{Value}
 use Rattle.plcx_types.specs.Lists.{Each}
 use Rattle.plcx_meaning.specs.Tree.{Operator, Or, And, Expression, Number, Name, Member, Apply, Not, Binary, expressions}
 use Rattle.plcx_meaning.specs.Templates.{or_text, both, chain, compared, neighbours, negation}
-use Rattle.plcx_st.specs.Print.{level, tightest}
+use Rattle.plcx_st.specs.Binding.{level, tightest}
 use Rattle.plcx_st.specs.Depth.{expression_depth, list_depth}
 
 -- at most so deep, whatever stands beside it

@@ -11,7 +11,8 @@ use Rattle.plcx_lex.specs.declared.token.TokenKind.TheVariants as kind
 use Rattle.plcx_lex.specs.Lexis.{IsToken}
 use Rattle.plcx_types.specs.Lists.{Each}
 use Rattle.plcx_meaning.specs.Tree.{Operator, Or, Xor, And, Equal, NotEqual, Less, Greater, LessOrEqual, GreaterOrEqual, Plus, Minus, Times, Divide, Mod, Expression, Number, Name, Member, Apply, Not, Binary, Expressions, no_expression, expression, Argument}
-use Rattle.plcx_st.specs.Print.{Shape, shape, word, sign, name, level, tightest, operator_shape, in_brackets, expression_shapes, list_shapes, further_shapes, argument_shapes, arguments_shapes, further_arguments}
+use Rattle.plcx_st.specs.Binding.{level, tightest}
+use Rattle.plcx_st.specs.Print.{Shape, shape, word, sign, name, operator_shape, in_brackets, expression_shapes, list_shapes, further_shapes, argument_shapes, arguments_shapes, further_arguments}
 use Rattle.plcx_st.specs.InRange.{IsWord, ExpressionInRange, ExpressionsInRange, ArgumentInRange}
 use Rattle.plcx_st.specs.Fitting.{ExpressionFits, ExpressionsFit, ArgumentFits}
 use Rattle.plcx_st.proofs.Inside.{head, same_bytes, name_bytes}

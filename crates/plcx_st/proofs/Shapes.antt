@@ -17,7 +17,8 @@ use Rattle.plcx_st.specs.declared.tree.Arm.{Arm}
 use Rattle.plcx_st.specs.declared.tree.Stmt.{Stmt}
 use Rattle.plcx_st.specs.declared.tree.Stmt.TheVariants as s
 use Rattle.plcx_st.specs.Meant.{number_meant, op_meant, expr_meant, arg_meant, Labelled, stmt_meant}
-use Rattle.plcx_st.specs.Print.{Shape, word, sign, name, number, level, tightest, operator_shape, in_brackets, expression_shapes, list_shapes, further_shapes, argument_shapes, arguments_shapes, further_arguments, Line, line, opening, closing, label_line, statement_lines, statements_lines, arms_lines}
+use Rattle.plcx_st.specs.Binding.{level, tightest}
+use Rattle.plcx_st.specs.Print.{Shape, word, sign, name, number, operator_shape, in_brackets, expression_shapes, list_shapes, further_shapes, argument_shapes, arguments_shapes, further_arguments, Line, line, opening, closing, label_line, statement_lines, statements_lines, arms_lines}
 use Rattle.plcx_st.specs.Printer.{Puts, Writes, arm_meant}
 use Rattle.plcx_st.proofs.Puts.{comma_sign, puts_then, puts_along, puts_none, writes_then, writes_along, writes_none}
 use Rattle.plcx_st.proofs.Views.{number_view, name_view, member_view, call_view, not_view, binary_view, assign_view, call_statement_view, if_view, while_view, case_view}

@@ -16,7 +16,8 @@ use Rattle.plcx_lex.specs.Terminal.{terminal, terminal_of}
 use Rattle.plcx_st.specs.Grammar as grammar
 use Rattle.plcx_st.specs.Grammar.{IsExpr, AreExprs, operator}
 use Rattle.plcx_st.specs.Meant.{op_meant, expr_meant}
-use Rattle.plcx_st.specs.Print.{Shape, word, sign, name, number, level, tightest, operator_shape, in_brackets, expression_shapes, further_shapes}
+use Rattle.plcx_st.specs.Binding.{level, tightest}
+use Rattle.plcx_st.specs.Print.{Shape, word, sign, name, number, operator_shape, in_brackets, expression_shapes, further_shapes}
 use Rattle.plcx_st.specs.Depth.{expression_depth, list_depth}
 use Rattle.plcx_st.specs.InRange.{ExpressionInRange, ExpressionsInRange}
 use Rattle.plcx_st.specs.Fitting.{ExpressionFits, ExpressionsFit}
@@ -44,24 +45,23 @@ op_of Mod = op.Mod
 
 record Operates (o : Operator) : Type 0 where
   same : op_meant (op_of o) ≡ o
-  level : grammar.level (op_of o) ≡ level o
   told : operator (terminal_of (operator_shape o).kind (operator_shape o).text) ≡ Some (op_of o)
 
 operates : (o : Operator) → Operates o
-operates Or = record { same = refl; level = refl; told = refl }
-operates Xor = record { same = refl; level = refl; told = refl }
-operates And = record { same = refl; level = refl; told = refl }
-operates Equal = record { same = refl; level = refl; told = refl }
-operates NotEqual = record { same = refl; level = refl; told = refl }
-operates Less = record { same = refl; level = refl; told = refl }
-operates Greater = record { same = refl; level = refl; told = refl }
-operates LessOrEqual = record { same = refl; level = refl; told = refl }
-operates GreaterOrEqual = record { same = refl; level = refl; told = refl }
-operates Plus = record { same = refl; level = refl; told = refl }
-operates Minus = record { same = refl; level = refl; told = refl }
-operates Times = record { same = refl; level = refl; told = refl }
-operates Divide = record { same = refl; level = refl; told = refl }
-operates Mod = record { same = refl; level = refl; told = refl }
+operates Or = record { same = refl; told = refl }
+operates Xor = record { same = refl; told = refl }
+operates And = record { same = refl; told = refl }
+operates Equal = record { same = refl; told = refl }
+operates NotEqual = record { same = refl; told = refl }
+operates Less = record { same = refl; told = refl }
+operates Greater = record { same = refl; told = refl }
+operates LessOrEqual = record { same = refl; told = refl }
+operates GreaterOrEqual = record { same = refl; told = refl }
+operates Plus = record { same = refl; told = refl }
+operates Minus = record { same = refl; told = refl }
+operates Times = record { same = refl; told = refl }
+operates Divide = record { same = refl; told = refl }
+operates Mod = record { same = refl; told = refl }
 
 -- ---- expressions
 
@@ -138,9 +138,10 @@ spelled_operator o a b left right d c ts h lefts rights =
     let y = rights t.back t.second in
     let is = operates o in
     let which : operator (terminal t.token) ≡ Some (op_of o) = ap operator (terminal_is t.token (operator_shape o) t.is) ∙ is.told in
-    let le : level o ≤ grammar.level (op_of o) = omega (arith, is.level) in
-    let stands-left : IsExpr (grammar.level (op_of o)) r.front x.value d = subst (λ n. IsExpr n r.front x.value d) (sym is.level) x.stands in
-    let stands-right : IsExpr (suc (grammar.level (op_of o))) t.back y.value c = subst (λ n. IsExpr (suc n) t.back y.value c) (sym is.level) y.stands in
+    let level-is : grammar.level (op_of o) ≡ level o = ap level is.same in
+    let le : level o ≤ grammar.level (op_of o) = omega (arith, level-is) in
+    let stands-left : IsExpr (grammar.level (op_of o)) r.front x.value d = subst (λ n. IsExpr n r.front x.value d) (sym level-is) x.stands in
+    let stands-right : IsExpr (suc (grammar.level (op_of o))) t.back y.value c = subst (λ n. IsExpr (suc n) t.back y.value c) (sym level-is) y.stands in
     along (level o) ts (r.front ++ t.token ∷ t.back) (Binary o left right) (suc (max d c)) (r.parts ∙ ap (λ (z : List Token). r.front ++ z) t.parts)
     (record {
       value = e.Binary (op_of o) x.value y.value;

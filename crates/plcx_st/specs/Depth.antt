@@ -1,7 +1,7 @@
 -- How deep the printed form of a unit is. Each binary operator, NOT, bracket pair, call, statement and POU is one deeper than its deepest part.
 use Rattle.std.specs.Prelude.{ℕ, suc, max, nat_lt, List, [], ◌∷◌, if◌then◌else◌}
 use Rattle.plcx_meaning.specs.Tree.{Operator, Expression, Number, Name, Member, Apply, Not, Binary, Expressions, no_expression, expression, Argument, Statement, Assign, Call, If, While, Case, Statements, no_statement, statement, Arms, no_arm, arm, PouText, statements}
-use Rattle.plcx_st.specs.Print.{level, tightest}
+use Rattle.plcx_st.specs.Binding.{level, tightest}
 
 -- one deeper in brackets
 abbrev pub bracketed_depth : ℕ → Operator → ℕ → ℕ

@@ -3,6 +3,7 @@ use Rattle.std.specs.Prelude.{◌≡◌, ℕ, ℤ, suc, ◌≤◌, max, min, map
 use Rattle.std.specs.Char.{to_ascii_uppercase}
 use Rattle.plcx_types.specs.declared.ty.Ty.{Ty}
 use Rattle.plcx_types.specs.Numeral.{number_from}
+use Rattle.plcx_types.specs.Limits.{max_text_depth}
 use Rattle.plcx_lex.specs.Token.{Token}
 use Rattle.plcx_lex.specs.Number.{IsLiteral}
 use Rattle.plcx_lex.specs.Terminal.{terminal}
@@ -28,6 +29,9 @@ use Rattle.plcx_st.specs.declared.tree.Stmt.{Stmt}
 use Rattle.plcx_st.specs.declared.tree.Stmt.TheVariants as s
 use Rattle.plcx_st.specs.declared.tree.PouText.{PouText}
 use Rattle.plcx_st.specs.declared.tree.Unit as tree
+use Rattle.plcx_st.specs.Meant.{op_meant}
+use Rattle.plcx_st.specs.Binding as binding
+use Rattle.plcx_st.specs.Binding.{tightest}
 
 -- ---- words and numbers, with their places
 
@@ -63,24 +67,7 @@ operator _ = None
 
 -- how tightly it binds
 abbrev pub level : Op → ℕ
-level op.Or = 0
-level op.Xor = 1
-level op.And = 2
-level op.Equal = 3
-level op.NotEqual = 3
-level op.Less = 4
-level op.Greater = 4
-level op.LessOrEqual = 4
-level op.GreaterOrEqual = 4
-level op.Plus = 5
-level op.Minus = 5
-level op.Times = 6
-level op.Divide = 6
-level op.Mod = 6
-
--- tighter than every operator: an operand
-abbrev pub tightest : ℕ
-tightest = 7
+level o = binding.level (op_meant o)
 
 mutual
   -- an expression whose operators outside of brackets bind at least as tightly as the first number
@@ -209,4 +196,4 @@ IsUnit ts u d = ArePous ts u.pous d
 
 -- the greatest depth of a text
 abbrev pub limit : ℕ
-limit = 256
+limit = max_text_depth

@@ -1,4 +1,5 @@
 -- What the contracts of public functions say.
+pub mod Binding
 pub mod Grammar
 pub mod Place
 pub mod Meant

@@ -8,6 +8,7 @@ use Rattle.plcx_types.specs.Value.{Value}
 use Rattle.plcx_lex.specs.declared.token.TokenKind.{TokenKind}
 use Rattle.plcx_lex.specs.declared.token.TokenKind.TheVariants as kind
 use Rattle.plcx_meaning.specs.Tree.{PouKind, Program, FunctionBlock, Class, Local, Input, Output, InOut, Temp, Mark, Plain, Constant, Retain, Declaration, Block, Operator, Or, Xor, And, Equal, NotEqual, Less, Greater, LessOrEqual, GreaterOrEqual, Plus, Minus, Times, Divide, Mod, Expression, Number, Name, Member, Apply, Not, Binary, Expressions, no_expression, expression, Argument, Statement, Assign, Call, If, While, Case, Statements, no_statement, statement, Arms, no_arm, arm, PouText, statements}
+use Rattle.plcx_st.specs.Binding.{level, tightest}
 
 -- a token that is printed
 pub record Shape : Type 0 where
@@ -86,27 +87,6 @@ joined [] = []
 joined (a ∷ shapes) = a.text ++ text_behind a shapes
 
 -- ---- expressions
-
--- how tightly an operator binds
-abbrev pub level : Operator → ℕ
-level Or = 0
-level Xor = 1
-level And = 2
-level Equal = 3
-level NotEqual = 3
-level Less = 4
-level Greater = 4
-level LessOrEqual = 4
-level GreaterOrEqual = 4
-level Plus = 5
-level Minus = 5
-level Times = 6
-level Divide = 6
-level Mod = 6
-
--- what binds so tightly is no binary operator
-abbrev pub tightest : ℕ
-tightest = 7
 
 -- how an operator is written
 abbrev pub operator_shape : Operator → Shape

@@ -6,9 +6,10 @@ ghost use Rattle.plcx_lex.specs.declared.token.TokenKind.TheVariants as kind;
 ghost use Rattle.plcx_meaning.specs.Tree as tree;
 ghost use Rattle.plcx_st.specs.declared.printing.Last.TheVariants.{Nothing};
 ghost use Rattle.plcx_st.specs.Meant.{number_meant, op_meant, expr_meant, arg_meant, stmt_meant, decl_meant, class_meant, mark_meant, block_meant, kind_meant, pou_meant, meant};
-ghost use Rattle.plcx_st.specs.Print.{shape, word, sign, name, number, level, operator_shape, expression_shapes, list_shapes, argument_shapes, arguments_shapes, in_brackets, line, label_line, opening, closing, line_text, statement_lines, statements_lines, arms_lines, address_shapes, initial_shapes, declaration_line, class_word, mark_shapes, block_lines, pou_word, pou_end, pou_lines, unit_lines, printed};
+ghost use Rattle.plcx_st.specs.Print.{shape, word, sign, name, number, operator_shape, expression_shapes, list_shapes, argument_shapes, arguments_shapes, in_brackets, line, label_line, opening, closing, line_text, statement_lines, statements_lines, arms_lines, address_shapes, initial_shapes, declaration_line, class_word, mark_shapes, block_lines, pou_word, pou_end, pou_lines, unit_lines, printed};
 ghost use Rattle.plcx_st.specs.Printer.{Puts, Writes, arm_meant, joins, last_of};
 
+use crate::binding::level;
 use crate::tree::{
     Arg, Arm, Decl, Expr, Mark, Number, Op, PouText, Stmt, TextBlock, TextClass, TextKind, Unit,
     Word,
@@ -62,20 +63,6 @@ fn last_of(kind: TokenKind, text: &[u8]) -> Last
         TokenKind::Name => Last::Name,
         TokenKind::Digits => Last::Digits,
         _ => Last::Other,
-    }
-}
-
-fn level(op: Op) -> u8
-    ensures { result ≡ level (op_meant op) }
-{
-    match op {
-        Op::Or => 0,
-        Op::Xor => 1,
-        Op::And => 2,
-        Op::Equal | Op::NotEqual => 3,
-        Op::Less | Op::Greater | Op::LessOrEqual | Op::GreaterOrEqual => 4,
-        Op::Plus | Op::Minus => 5,
-        Op::Times | Op::Divide | Op::Mod => 6,
     }
 }
 

@@ -13,20 +13,20 @@ use std::alloc::{AllocError, Global};
 
 /// An element that is looked at, and what becomes of it.
 #[derive(Clone, Copy)]
-pub struct Looked<'a> {
+pub struct Looked<'a, 'f> {
     pub fate: Fate,
-    pub element: &'a Element,
+    pub element: &'a Element<'f>,
 }
 
 /// An element and what is looked at below it, behind what is found so far.
 #[cycle(walk)]
 #[tactic(auto, unfolding(crate::specs::Walk::items))]
-fn walk<'a>(
-    mut found: Vec<Looked<'a>>,
+fn walk<'a, 'f>(
+    mut found: Vec<Looked<'a, 'f>>,
     depth: usize,
     fate: Fate,
-    element: &'a Element,
-) -> Result<Vec<Looked<'a>>, AllocError>
+    element: &'a Element<'f>,
+) -> Result<Vec<Looked<'a, 'f>>, AllocError>
     ensures { IfOk result (λ all. map shown_item all.items ≡ map shown_item found.entry.items ++ items depth fate element.now) }
 {
     if depth == 0 {
@@ -37,12 +37,12 @@ fn walk<'a>(
 }
 
 #[cycle(walk)]
-fn walk_beyond<'a>(
-    found: Vec<Looked<'a>>,
+fn walk_beyond<'a, 'f>(
+    found: Vec<Looked<'a, 'f>>,
     depth: usize,
     fate: Fate,
-    element: &'a Element,
-) -> Result<Vec<Looked<'a>>, AllocError>
+    element: &'a Element<'f>,
+) -> Result<Vec<Looked<'a, 'f>>, AllocError>
     ensures { IfOk result (λ all. map shown_item all.items ≡ map shown_item found.entry.items ++ below (items depth) fate element.now) }
 {
     match fate {
@@ -53,12 +53,12 @@ fn walk_beyond<'a>(
 
 #[cycle(walk)]
 #[tactic(auto, unfolding(crate::specs::Walk::items_below))]
-fn walk_below<'a>(
-    mut found: Vec<Looked<'a>>,
+fn walk_below<'a, 'f>(
+    mut found: Vec<Looked<'a, 'f>>,
     depth: usize,
     row: Row,
-    nodes: &'a [Node],
-) -> Result<Vec<Looked<'a>>, AllocError>
+    nodes: &'a [Node<'f>],
+) -> Result<Vec<Looked<'a, 'f>>, AllocError>
     ensures { IfOk result (λ all. map shown_item all.items ≡ map shown_item found.entry.items ++ items_below (items depth) row none_taken nodes.now) }
 {
     let mut taken = none_taken();
@@ -88,7 +88,10 @@ fn root_fate(root: &Element) -> Fate
 
 /// All that is looked at in a file, in document order.
 #[tactic(auto, unfolding(crate::specs::Format::looked_at))]
-pub fn looked_at(alloc: Global, root: &Element) -> Result<Vec<Looked<'_>>, AllocError>
+pub fn looked_at<'a, 'f>(
+    alloc: Global,
+    root: &'a Element<'f>,
+) -> Result<Vec<Looked<'a, 'f>>, AllocError>
     ensures { IfOk result (λ all. map shown_item all.items ≡ looked_at root.now) }
 {
     Ok(walk(Vec::new(alloc), MAX_ELEMENT_DEPTH, root_fate(root), root)?)

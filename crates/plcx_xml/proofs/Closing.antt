@@ -1,12 +1,14 @@
 -- The end of an element closes what its frame opened.
-use Rattle.std.proofs.Common.{◌≡◌, ◌++◌, [], ◌∷◌, ℕ, List, sym, ◌∙◌, ap, refl, append_assoc, append-nil, map}
+use Rattle.std.proofs.Common.{◌≡◌, ◌++◌, [], ◌∷◌, ℕ, List, sym, subst, ◌∙◌, ap, refl, append_assoc, append-nil, map}
 use Rattle.std.specs.Prelude.{Bool, true, false, not}
 use Rattle.std.specs.List.{flat_map}
 use Rattle.std.specs.Str.{bytes_eq}
 use Rattle.std.proofs.lemmas.Slice.Eq.{bytes_eq-Decides}
 use Rattle.std.proofs.lemmas.List.Concat.{flat_map-append}
 use Rattle.plcx_xml.specs.Events.{Event, Begin, End, events_of, events_of_element, node_events, element_events}
-use Rattle.plcx_xml.specs.Built.{opened}
+use Rattle.plcx_xml.specs.Built.{opened, frame_names, Going, went}
+use Rattle.plcx_xml.specs.Nesting.{settled, end_step}
+use Rattle.plcx_xml.proofs.Texts.{names-last}
 use Rattle.plcx_xml.specs.declared.building.Frame.{Frame}
 use Rattle.plcx_xml.specs.declared.tree.Element.{Element, roll-Element, fold-roll-Element}
 
@@ -37,3 +39,9 @@ not_false false h = let no : ⊥ = cc in absurd no
 -- names that were compared
 pub names-same : (name x y : List ℕ) → x ≡ name → false ≡ not (bytes_eq x y) → name ≡ y
 names-same name x y e h = sym e ∙ (bytes_eq-Decides x y).0 (not_false (bytes_eq x y) h)
+
+-- an end tag of the innermost name leaves the names around it
+pub ends-here : (frames init : List Frame) (f : Frame) (x name : List ℕ) (at : ℕ) → frames ≡ init ++ f ∷ [] → x ≡ f.name → false ≡ not (bytes_eq x name) → Going (settled (frame_names init)) ≡ went (end_step (frame_names frames) name) (end_step (frame_names frames) name) at
+ends-here frames init f x name at p n e =
+    let same : bytes_eq f.name name ≡ true = subst (λ (y : List ℕ). bytes_eq y name ≡ true) n (not_false (bytes_eq x name) e) in
+    rw (p, names-last init f, same) refl

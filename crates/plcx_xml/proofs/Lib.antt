@@ -17,6 +17,7 @@ pub mod Links
 pub mod TreeParts
 pub mod Reached
 pub mod Fronts
+pub mod Singles
 pub mod Ending
 pub mod OneFile
 pub mod OneFault

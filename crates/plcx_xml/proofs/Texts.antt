@@ -77,7 +77,7 @@ behind-element old new init e v span o n =
     let is : flat_map events_of new ≡ flat_map events_of old ++ Chars v span ∷ [] = ap (flat_map events_of) n ∙ (flat-last (init ++ node.Element e ∷ []) (node.Text text) ∙ (ap (λ (ns : List Node). flat_map events_of ns ++ events_of (node.Text text)) (sym o) ∙ ap (λ (es : List Event). flat_map events_of old ++ es) (text-events text))) in
     is ∙ (ap (λ (es : List Event). es ++ Chars v span ∷ []) was ∙ (sym (with-end front own.1 own.2 (Chars v span)) ∙ ap (λ (es : List Event). with_event es (Chars v span)) (sym was)))
 
-names-last : (init : List Frame) (f : Frame) → frame_names (init ++ f ∷ []) ≡ f.name ∷ frame_names init
+pub names-last : (init : List Frame) (f : Frame) → frame_names (init ++ f ∷ []) ≡ f.name ∷ frame_names init
 names-last init f = ap reverse (map-append (λ (g : Frame). g.name) init (f ∷ [])) ∙ reverse-append (map (λ (g : Frame). g.name) init) (f.name ∷ [])
 
 -- a text in the innermost open element

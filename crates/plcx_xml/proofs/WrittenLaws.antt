@@ -1,11 +1,11 @@
 -- References, and a value that is written with them: what is read is what is spelled.
-use Rattle.std.proofs.Common.{◌≡◌, ◌<◌, ◌≤◌, ℕ, zero, suc, ◌+◌, Bool, true, false, List, [], ◌∷◌, ◌++◌, length, refl, ap, sym, subst, ◌∙◌, ◌⊎◌, inl, inr, arith, cond, None, Some, append_assoc, length-append, nat_eq}
+use Rattle.std.proofs.Common.{◌≡◌, ◌<◌, ◌≤◌, ℕ, zero, suc, ◌+◌, Bool, true, false, List, [], ◌∷◌, ◌++◌, length, take, refl, ap, sym, subst, ◌∙◌, ◌⊎◌, inl, inr, arith, cond, None, Some, append_assoc, length-append, nat_eq}
 use Rattle.std.specs.declared.option.Option.{Option}
 use Rattle.std.specs.Option.{option_map}
 use Rattle.std.specs.Char.{encode_utf8}
-use Rattle.std.specs.List.{flat_map}
+use Rattle.std.specs.List.{flat_map, list_all, prefix_len}
 use Rattle.std.proofs.lemmas.Bool.{eqb-true}
-use Rattle.std.proofs.lemmas.List.{take_at, drop_at}
+use Rattle.std.proofs.lemmas.List.{take_at, drop_at, take_all, append-nil}
 use Rattle.plcx_xml.specs.Character.{is_plain, is_named}
 use Rattle.plcx_xml.specs.Reference.{character_named}
 use Rattle.plcx_xml.specs.Grammar.{Stops, SpellsReference, SpellsPiece, Plain, Named, SpellsPieces, SpellsValue}
@@ -126,3 +126,15 @@ written-sound written value h =
 
 pub written-again : (written value : List ℕ) → SpellsValue value written → value_of written ≡ Some value
 written-again written value s = ap joined_pieces (pieces-again (length written) s.0 written s.2 (omega arith)) ∙ ap (λ (xs : List ℕ). Some xs) (sym s.1)
+
+-- a text without `&` is longest as it is
+no_and : (xs : List ℕ) → prefix_len is_plain xs ≡ length xs → list_all is_plain xs ≡ true
+no_and xs h = subst (λ (ys : List ℕ). list_all is_plain ys ≡ true) (ap (λ (n : ℕ). take n xs) h ∙ take_all (length xs) xs (omega arith)) (run-sound is_plain xs).0
+
+as_it_is : (xs : List ℕ) → prefix_len is_plain xs ≡ length xs → SpellsValue xs xs
+as_it_is [] h = ([], refl, refl)
+as_it_is (x ∷ xs) h = ((x ∷ xs) ∷ [], sym (append-nil (x ∷ xs)), ((x ∷ xs), [], sym (append-nil (x ∷ xs)), Plain refl (omega arith) (no_and (x ∷ xs) h) tt, refl))
+
+-- a value without `&` is written as it is
+pub plain_written : (written : List ℕ) → prefix_len is_plain written ≡ length written → value_of written ≡ Some written
+plain_written written h = written-again written written (as_it_is written h)

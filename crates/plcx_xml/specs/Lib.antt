@@ -1,5 +1,7 @@
+pub mod Held
 pub mod Look
 pub mod Character
+pub mod Single
 pub mod Reference
 pub mod Grammar
 pub mod Events

@@ -8,8 +8,10 @@ ghost use Rattle.plcx_xml.specs.Built.{Going, Broken, Deep, State, opened, frame
 ghost use Rattle.plcx_xml.specs.declared.building.Build.TheVariants as built;
 ghost use Rattle.plcx_xml.specs.declared.token.Kind.TheVariants as kind;
 
+use crate::content::Content;
 use crate::error::XmlError;
 use crate::lexing::is_blank;
+use crate::name::Name;
 use crate::token::{Kind, Token};
 use crate::tree::{Attribute, Element, Node, Text};
 use plcx_types::Span;
@@ -19,27 +21,30 @@ use std::alloc::{AllocError, Global};
 
 /// An element that is open.
 #[derive(Drop)]
-pub struct Frame {
-    name: Items<u8>,
-    attributes: Items<Attribute>,
-    children: Items<Node>,
+pub struct Frame<'a> {
+    name: Name<'a>,
+    attributes: Items<Attribute<'a>>,
+    children: Items<Node<'a>>,
     start: u64,
 }
 
 /// What is built so far: the elements that are open, or the root once it is closed. Once it is too deep,
 /// or once the nesting is broken, nothing more is built.
 #[derive(Drop)]
-pub enum Build {
-    Open(Vec<Frame>),
-    Closed(Element),
-    Deep { names: Vec<Items<u8>>, at: u64 },
+pub enum Build<'a> {
+    Open(Vec<Frame<'a>>),
+    Closed(Element<'a>),
+    Deep { names: Vec<Name<'a>>, at: u64 },
     Broken { at: u64 },
 }
 
 /// Puts an element into the innermost open one. Where none is open, it is the root.
-fn put_element(mut frames: Vec<Frame>, element: Element) -> Result<Build, AllocError>
-    ensures state { IfOk result (λ build. state_of build ≡ Going (settled (frame_names frames.items))) }
-    ensures events { IfOk result (λ build. Keeps build (flat_map opened frames.items ++ events_of_element element)) }
+fn put_element<'a>(
+    mut frames: Vec<Frame<'a>>,
+    element: Element<'a>,
+) -> Result<Build<'a>, AllocError>
+    ensures state { IfOk result (λ build. state_of build ≡ Going (settled (frame_names frames.entry.items))) }
+    ensures events { IfOk result (λ build. Keeps build (flat_map opened frames.entry.items ++ events_of_element element.entry)) }
 {
     match frames.pop() {
         None => Ok(Build::Closed(element)),
@@ -52,16 +57,13 @@ fn put_element(mut frames: Vec<Frame>, element: Element) -> Result<Build, AllocE
 }
 
 /// A text with one more behind it.
-fn join(text: Text, value: Items<u8>, span: Span) -> Result<Text, AllocError>
-    ensures { IfOk result (λ both. (both.value ≡ text.value ++ value) × (both.span ≡ record { start = text.span.start; end = span.end })) }
+fn join<'a>(alloc: Global, text: Text<'a>, more: &[u8], span: Span) -> Result<Text<'a>, AllocError>
+    ensures { IfOk result (λ both. (both.value ≡ text.entry.value ++ more.now) × (both.span ≡ record { start = text.entry.span.start; end = span.end })) }
 {
-    let Text {
-        value: mut before,
-        span: own,
-    } = text;
-    before.append(value)?;
+    let Text { value, span: own } = text;
+    let value = value.followed_by(alloc, more)?;
     Ok(Text {
-        value: before,
+        value,
         span: Span {
             start: own.start,
             end: span.end,
@@ -70,18 +72,19 @@ fn join(text: Text, value: Items<u8>, span: Span) -> Result<Text, AllocError>
 }
 
 /// Puts a part and a text behind it, into the part if that is a text.
-fn put_behind(
-    children: &mut Items<Node>,
-    last: Node,
-    value: Items<u8>,
+fn put_behind<'a>(
+    alloc: Global,
+    children: &mut Items<Node<'a>>,
+    last: Node<'a>,
+    value: Content<'a>,
     span: Span,
 ) -> Result<(), AllocError>
     ensures { OnOk result (flat_map events_of children.new
-        ≡ with_event (flat_map events_of (children.old ++ last ∷ [])) (Chars value span)) }
+        ≡ with_event (flat_map events_of (children.old ++ last.entry ∷ [])) (Chars value.entry span)) }
 {
     match last {
         Node::Text(text) => {
-            let both = join(text, value, span)?;
+            let both = join(alloc, text, value.bytes(), span)?;
             children.push(Node::Text(both))?;
         }
         Node::Element(element) => {
@@ -93,28 +96,34 @@ fn put_behind(
 }
 
 /// Puts a text behind these parts, into the last of them if that is a text.
-fn add_text(children: &mut Items<Node>, value: Items<u8>, span: Span) -> Result<(), AllocError>
-    ensures { OnOk result (flat_map events_of children.new ≡ with_event (flat_map events_of children.old) (Chars value span)) }
+fn add_text<'a>(
+    alloc: Global,
+    children: &mut Items<Node<'a>>,
+    value: Content<'a>,
+    span: Span,
+) -> Result<(), AllocError>
+    ensures { OnOk result (flat_map events_of children.new ≡ with_event (flat_map events_of children.old) (Chars value.entry span)) }
 {
     match children.pop() {
         None => {
             children.push(Node::Text(Text { value, span }))?;
             Ok(())
         }
-        Some(last) => put_behind(children, last, value, span),
+        Some(last) => put_behind(alloc, children, last, value, span),
     }
 }
 
 /// Puts a text into the innermost open element. Where none is open, only a blank one may stand.
-fn put_text(
-    mut frames: Vec<Frame>,
-    value: Items<u8>,
+fn put_text<'a>(
+    alloc: Global,
+    mut frames: Vec<Frame<'a>>,
+    value: Content<'a>,
     span: Span,
     blank: bool,
-) -> Result<Build, AllocError>
+) -> Result<Build<'a>, AllocError>
     ensures state { IfOk result (λ build. state_of build
-        ≡ went (text_step (open_place frames.items) (frame_names frames.items) blank) (text_step (open_place frames.items) (frame_names frames.items) blank) span.start) }
-    ensures events { IfOk result (λ build. Keeps build (with_text (flat_map opened frames.items) (frame_names frames.items) value span)) }
+        ≡ went (text_step (open_place frames.entry.items) (frame_names frames.entry.items) blank) (text_step (open_place frames.entry.items) (frame_names frames.entry.items) blank) span.start) }
+    ensures events { IfOk result (λ build. Keeps build (with_text (flat_map opened frames.entry.items) (frame_names frames.entry.items) value.entry span)) }
 {
     match frames.pop() {
         None => {
@@ -125,7 +134,7 @@ fn put_text(
             }
         }
         Some(mut frame) => {
-            add_text(&mut frame.children, value, span)?;
+            add_text(alloc, &mut frame.children, value, span)?;
             frames.push(frame)?;
             Ok(Build::Open(frames))
         }
@@ -140,26 +149,26 @@ fn is_full(frames: &[Frame]) -> bool
 }
 
 /// The names of these elements, the outermost first.
-fn names_of(alloc: Global, frames: &[Frame]) -> Result<Vec<Items<u8>>, AllocError>
+fn names_of<'a>(alloc: Global, frames: &[Frame<'a>]) -> Result<Vec<Name<'a>>, AllocError>
     ensures { IfOk result (λ names. names.items ≡ map (λ (f : Frame). f.name) frames.now) }
 {
     let mut names = Vec::new(alloc);
     for frame in frames {
-        names.push(Items::from_slice(alloc, frame.name.as_slice())?)?;
+        names.push(Name::spelled(frame.name.bytes()))?;
     }
     Ok(names)
 }
 
 /// Opens an element.
-fn begin(
+fn begin<'a>(
     alloc: Global,
-    mut frames: Vec<Frame>,
-    name: Items<u8>,
-    attributes: Items<Attribute>,
+    mut frames: Vec<Frame<'a>>,
+    name: Name<'a>,
+    attributes: Items<Attribute<'a>>,
     start: u64,
-) -> Result<Build, AllocError>
-    ensures state { IfOk result (λ build. state_of build ≡ next (Going (open_place frames.items)) (kind.Start name attributes) start) }
-    ensures events { IfOk result (λ build. Keeps build (flat_map opened frames.items ++ Begin name attributes start ∷ [])) }
+) -> Result<Build<'a>, AllocError>
+    ensures state { IfOk result (λ build. state_of build ≡ next (Going (open_place frames.entry.items)) (kind.Start name.entry attributes.entry) start) }
+    ensures events { IfOk result (λ build. Keeps build (flat_map opened frames.entry.items ++ Begin name.entry attributes.entry start ∷ [])) }
 {
     if is_full(frames.as_slice()) {
         let mut names = names_of(alloc, frames.as_slice())?;
@@ -176,15 +185,15 @@ fn begin(
 }
 
 /// Closes the innermost open element.
-fn end(mut frames: Vec<Frame>, name: &[u8], span: Span) -> Result<Build, AllocError>
+fn end<'a>(mut frames: Vec<Frame<'a>>, name: &[u8], span: Span) -> Result<Build<'a>, AllocError>
     ensures state { IfOk result (λ build. state_of build
-        ≡ went (end_step (frame_names frames.items) name.now) (end_step (frame_names frames.items) name.now) span.start) }
-    ensures events { IfOk result (λ build. Keeps build (flat_map opened frames.items ++ End name.now span.end ∷ [])) }
+        ≡ went (end_step (frame_names frames.entry.items) name.now) (end_step (frame_names frames.entry.items) name.now) span.start) }
+    ensures events { IfOk result (λ build. Keeps build (flat_map opened frames.entry.items ++ End name.now span.end ∷ [])) }
 {
     let Some(frame) = frames.pop() else {
         return Ok(Build::Broken { at: span.start });
     };
-    if frame.name.as_slice() != name {
+    if frame.name.bytes() != name {
         return Ok(Build::Broken { at: span.start });
     }
     let element = Element {
@@ -200,16 +209,16 @@ fn end(mut frames: Vec<Frame>, name: &[u8], span: Span) -> Result<Build, AllocEr
 }
 
 /// An element that begins and ends by one tag.
-fn empty(
+fn empty<'a>(
     alloc: Global,
-    frames: Vec<Frame>,
-    name: Items<u8>,
-    attributes: Items<Attribute>,
+    frames: Vec<Frame<'a>>,
+    name: Name<'a>,
+    attributes: Items<Attribute<'a>>,
     span: Span,
-) -> Result<Build, AllocError>
-    ensures state { IfOk result (λ build. state_of build ≡ next (Going (open_place frames.items)) (kind.Empty name attributes) span.start) }
+) -> Result<Build<'a>, AllocError>
+    ensures state { IfOk result (λ build. state_of build ≡ next (Going (open_place frames.entry.items)) (kind.Empty name.entry attributes.entry) span.start) }
     ensures events { IfOk result (λ build. Keeps build
-        (flat_map opened frames.items ++ kind_events (kind.Empty name attributes) span)) }
+        (flat_map opened frames.entry.items ++ kind_events (kind.Empty name.entry attributes.entry) span)) }
 {
     if is_full(frames.as_slice()) {
         let names = names_of(alloc, frames.as_slice())?;
@@ -228,14 +237,14 @@ fn empty(
 }
 
 /// Behind the root only blank text, comments and instructions may follow.
-fn take_behind(root: Element, token: Token) -> Build
-    ensures state { state_of result ≡ next (state_of (built.Closed root)) token.kind token.span.start }
-    ensures events { Keeps result (events_of_element root) }
+fn take_behind<'a>(root: Element<'a>, token: Token<'a>) -> Build<'a>
+    ensures state { state_of result ≡ next (state_of (built.Closed root.entry)) token.entry.kind token.entry.span.start }
+    ensures events { Keeps result (events_of_element root.entry) }
 {
     let Token { kind, span } = token;
     match kind {
         Kind::Text(value) => {
-            if is_blank(value.as_slice()) {
+            if is_blank(value.bytes()) {
                 Build::Closed(root)
             } else {
                 Build::Broken { at: span.start }
@@ -247,35 +256,39 @@ fn take_behind(root: Element, token: Token) -> Build
     }
 }
 
-fn take_open(alloc: Global, frames: Vec<Frame>, token: Token) -> Result<Build, AllocError>
-    ensures state { IfOk result (λ build. state_of build ≡ next (Going (open_place frames.items)) token.kind token.span.start) }
+fn take_open<'a>(
+    alloc: Global,
+    frames: Vec<Frame<'a>>,
+    token: Token<'a>,
+) -> Result<Build<'a>, AllocError>
+    ensures state { IfOk result (λ build. state_of build ≡ next (Going (open_place frames.entry.items)) token.entry.kind token.entry.span.start) }
     ensures events { IfOk result (λ build. Keeps build
-        (with_token (flat_map opened frames.items) (frame_names frames.items) token.kind token.span)) }
+        (with_token (flat_map opened frames.entry.items) (frame_names frames.entry.items) token.entry.kind token.entry.span)) }
 {
     let Token { kind, span } = token;
     match kind {
         Kind::Start(name, attributes) => begin(alloc, frames, name, attributes, span.start),
         Kind::Empty(name, attributes) => empty(alloc, frames, name, attributes, span),
-        Kind::End(name) => end(frames, name.as_slice(), span),
+        Kind::End(name) => end(frames, name.bytes(), span),
         Kind::Text(value) => {
-            let blank = is_blank(value.as_slice());
-            put_text(frames, value, span, blank)
+            let blank = is_blank(value.bytes());
+            put_text(alloc, frames, value, span, blank)
         }
-        Kind::Reference(value) => put_text(frames, value, span, false),
-        Kind::Cdata(value) => put_text(frames, value, span, false),
+        Kind::Reference(value) => put_text(alloc, frames, value, span, false),
+        Kind::Cdata(value) => put_text(alloc, frames, value, span, false),
         Kind::Comment => Ok(Build::Open(frames)),
         Kind::Instruction => Ok(Build::Open(frames)),
     }
 }
 
 /// An end tag where the names alone are kept.
-fn end_deep(mut names: Vec<Items<u8>>, name: &[u8], at: u64, start: u64) -> Build
-    ensures { state_of result ≡ held (end_step (reverse names.items) name.now) at start }
+fn end_deep<'a>(mut names: Vec<Name<'a>>, name: &[u8], at: u64, start: u64) -> Build<'a>
+    ensures { state_of result ≡ held (end_step (reverse names.entry.items) name.now) at start }
 {
     let Some(own) = names.pop() else {
         return Build::Broken { at: start };
     };
-    if own.as_slice() == name {
+    if own.bytes() == name {
         Build::Deep { names, at }
     } else {
         Build::Broken { at: start }
@@ -283,29 +296,39 @@ fn end_deep(mut names: Vec<Items<u8>>, name: &[u8], at: u64, start: u64) -> Buil
 }
 
 /// Once it is too deep, only the nesting is looked at.
-fn take_deep(mut names: Vec<Items<u8>>, at: u64, token: Token) -> Result<Build, AllocError>
-    ensures { IfOk result (λ build. state_of build ≡ next (Deep (settled (reverse names.items)) at) token.kind token.span.start) }
+fn take_deep<'a>(
+    mut names: Vec<Name<'a>>,
+    at: u64,
+    token: Token<'a>,
+) -> Result<Build<'a>, AllocError>
+    ensures { IfOk result (λ build. state_of build ≡ next (Deep (settled (reverse names.entry.items)) at) token.entry.kind token.entry.span.start) }
 {
     let Token { kind, span } = token;
     let outside = names.is_empty();
     match kind {
-        Kind::Start(name, _) => {
+        Kind::Start(name, _attributes) => {
             if outside {
                 return Ok(Build::Broken { at: span.start });
             }
             names.push(name)?;
             Ok(Build::Deep { names, at })
         }
-        Kind::End(name) => Ok(end_deep(names, name.as_slice(), at, span.start)),
+        Kind::End(name) => Ok(end_deep(names, name.bytes(), at, span.start)),
         Kind::Text(value) => {
-            if outside && !is_blank(value.as_slice()) {
+            if outside && !is_blank(value.bytes()) {
                 return Ok(Build::Broken { at: span.start });
             }
             Ok(Build::Deep { names, at })
         }
         Kind::Comment => Ok(Build::Deep { names, at }),
         Kind::Instruction => Ok(Build::Deep { names, at }),
-        _ => {
+        Kind::Empty(_name, _attributes) => {
+            if outside {
+                return Ok(Build::Broken { at: span.start });
+            }
+            Ok(Build::Deep { names, at })
+        }
+        Kind::Reference(_value) | Kind::Cdata(_value) => {
             if outside {
                 return Ok(Build::Broken { at: span.start });
             }
@@ -315,9 +338,13 @@ fn take_deep(mut names: Vec<Items<u8>>, at: u64, token: Token) -> Result<Build, 
 }
 
 /// Takes one more token in.
-pub fn take_token(alloc: Global, build: Build, token: Token) -> Result<Build, AllocError>
-    ensures state { IfOk result (λ new. state_of new ≡ next (state_of build) token.kind token.span.start) }
-    ensures events { IfOk result (λ new. Keeps new (with_token (built_events build) (names_of (state_of build)) token.kind token.span)) }
+pub fn take_token<'a>(
+    alloc: Global,
+    build: Build<'a>,
+    token: Token<'a>,
+) -> Result<Build<'a>, AllocError>
+    ensures state { IfOk result (λ new. state_of new ≡ next (state_of build.entry) token.entry.kind token.entry.span.start) }
+    ensures events { IfOk result (λ new. Keeps new (with_token (built_events build.entry) (names_of (state_of build.entry)) token.entry.kind token.entry.span)) }
 {
     match build {
         Build::Open(frames) => take_open(alloc, frames, token),
@@ -328,8 +355,8 @@ pub fn take_token(alloc: Global, build: Build, token: Token) -> Result<Build, Al
 }
 
 /// The root, if it is closed, in a file of that length.
-pub fn finish(build: Build, last: u64) -> Result<Element, XmlError>
-    ensures { MatchResult result (λ root. build ≡ built.Closed root) (Ends (state_of build) last) }
+pub fn finish<'a>(build: Build<'a>, last: u64) -> Result<Element<'a>, XmlError>
+    ensures { MatchResult result (λ root. build.entry ≡ built.Closed root) (Ends (state_of build.entry) last) }
 {
     match build {
         Build::Closed(root) => Ok(root),

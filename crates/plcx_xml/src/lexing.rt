@@ -88,6 +88,7 @@ pub fn plain_len(bytes: &[u8]) -> usize
     bytes.iter().take_while(|byte| is_plain(**byte)).count()
 }
 
+/// How many bytes stand before the next `;`.
 pub fn named_len(bytes: &[u8]) -> usize
     ensures value { result ≡ prefix_len is_named bytes.now }
     ensures within { result ≤ length bytes.now }
@@ -95,6 +96,7 @@ pub fn named_len(bytes: &[u8]) -> usize
     bytes.iter().take_while(|byte| is_named(**byte)).count()
 }
 
+/// What follows this byte, if it stands there.
 pub fn byte_of(byte: u8, bytes: &[u8]) -> Option<&[u8]>
     ensures { option_map (λ p. p.now) result ≡ byte_at byte bytes.now }
 {

@@ -6,11 +6,13 @@
 #![tactic(auto)]
 
 mod building;
+mod content;
 mod error;
 mod front;
 mod laws;
 mod lexing;
 mod look;
+mod name;
 mod reading;
 mod reference;
 mod token;
@@ -18,8 +20,10 @@ mod tokens;
 mod tree;
 mod value;
 
+pub use content::Content;
 pub use error::XmlError;
 pub use laws::{no_tree, one_fault, one_tree};
+pub use name::Name;
 pub use reading::read_tree;
 pub use token::{Kind, Token};
 pub use tree::{Attribute, Element, Node, Text};

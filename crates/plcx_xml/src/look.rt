@@ -5,23 +5,23 @@ ghost use Rattle.plcx_xml.specs.Look.{name_of, children_of, attributes_of, span_
 use crate::tree::{Attribute, Element, Node, Text};
 use plcx_types::Span;
 
-impl Element {
+impl<'a> Element<'a> {
     /// Its name, as it stands in its tags.
     pub fn name(&self) -> &[u8]
         ensures { result.now ≡ name_of self.now }
     {
-        self.name.as_slice()
+        self.name.bytes()
     }
 
     /// Its parts, in the order of the file.
-    pub fn children(&self) -> &[Node]
+    pub fn children(&self) -> &[Node<'a>]
         ensures { result.now ≡ children_of self.now }
     {
         self.children.as_slice()
     }
 
     /// Its attributes, in the order of the file.
-    pub fn attributes(&self) -> &[Attribute]
+    pub fn attributes(&self) -> &[Attribute<'a>]
         ensures { result.now ≡ attributes_of self.now }
     {
         self.attributes.as_slice()
@@ -35,19 +35,19 @@ impl Element {
     }
 }
 
-impl Attribute {
+impl<'a> Attribute<'a> {
     /// Its name, as it stands in the tag.
     pub fn name(&self) -> &[u8]
         ensures { result.now ≡ self.now.name }
     {
-        self.name.as_slice()
+        self.name.bytes()
     }
 
     /// Its value, in which each reference has become its character.
     pub fn value(&self) -> &[u8]
         ensures { result.now ≡ self.now.value }
     {
-        self.value.as_slice()
+        self.value.bytes()
     }
 
     /// Where it stands in the file, from its name to its closing quote, in bytes.
@@ -58,12 +58,12 @@ impl Attribute {
     }
 }
 
-impl Text {
+impl<'a> Text<'a> {
     /// Its characters, in which each reference has become its character.
     pub fn value(&self) -> &[u8]
         ensures { result.now ≡ self.now.value }
     {
-        self.value.as_slice()
+        self.value.bytes()
     }
 
     /// Where it stands in the file, in bytes; comments and instructions inside it are counted.

@@ -27,7 +27,7 @@ fn behind_mark(bytes: &[u8]) -> &[u8]
 }
 
 /// What all tokens build, or where none stands.
-fn build_of(alloc: Global, front: &[u8]) -> Result<Build, XmlError>
+fn build_of(alloc: Global, front: &[u8]) -> Result<Build<'_>, XmlError>
     ensures built { IfOk result (Reached front.now []) }
     ensures stops { IfErr result (Stops front.now) }
 {
@@ -48,7 +48,7 @@ fn build_of(alloc: Global, front: &[u8]) -> Result<Build, XmlError>
 
 /// The tree that the bytes stand for, which is always an element, or their first fault: where they aren't UTF-8,
 /// where no token stands, where the tags don't nest, or the first element that lies in 64 others.
-pub fn read_tree(alloc: Global, bytes: &[u8]) -> Result<Node, XmlError>
+pub fn read_tree(alloc: Global, bytes: &[u8]) -> Result<Node<'_>, XmlError>
     ensures tree { IfOk result (λ tree. (root : Element) × (tree ≡ node.Element root) × IsTreeOf bytes.now root) }
     ensures fails { IfErr result (Fails bytes.now) }
 {

@@ -1,24 +1,26 @@
 //! Tokens: the pieces that a file is made of.
+use crate::content::Content;
+use crate::name::Name;
 use crate::tree::Attribute;
 use plcx_types::Span;
 use sqlite_items::Items;
 
 /// What a token is. A reference and a CDATA section have the bytes that they stand for.
-#[derive(Debug, Drop)]
-pub enum Kind {
-    Start(Items<u8>, Items<Attribute>),
-    Empty(Items<u8>, Items<Attribute>),
-    End(Items<u8>),
-    Text(Items<u8>),
-    Reference(Items<u8>),
-    Cdata(Items<u8>),
+#[derive(Drop)]
+pub enum Kind<'a> {
+    Start(Name<'a>, Items<Attribute<'a>>),
+    Empty(Name<'a>, Items<Attribute<'a>>),
+    End(Name<'a>),
+    Text(Content<'a>),
+    Reference(Content<'a>),
+    Cdata(Content<'a>),
     Comment,
     Instruction,
 }
 
 /// A piece of an exchange file that stands for itself.
-#[derive(Debug, Drop)]
-pub struct Token {
-    pub kind: Kind,
+#[derive(Drop)]
+pub struct Token<'a> {
+    pub kind: Kind<'a>,
     pub span: Span,
 }

@@ -3,7 +3,9 @@ ghost use Rattle.std.specs.Prelude.{◌≡◌, [], IfOk};
 ghost use Rattle.std.specs.Option.{option_map};
 ghost use Rattle.plcx_xml.specs.Reads.{span_between, attribute_at, attributes_at, end_token, text_token, tag_token, reference_token, comment_token, instruction_token, cdata_token, other_token, token_at};
 
+use crate::content::Content;
 use crate::lexing::{begin_of, behind_space, close_of, enclosed_of, end_of, parts_of, text_of};
+use crate::name::Name;
 use crate::reference::reference_of;
 use crate::token::{Kind, Token};
 use crate::tree::Attribute;
@@ -25,7 +27,7 @@ fn attribute_of(
     alloc: Global,
     last: u64,
     bytes: &[u8],
-) -> Result<Option<(Attribute, &[u8])>, AllocError>
+) -> Result<Option<(Attribute<'_>, &[u8])>, AllocError>
     ensures { IfOk result (λ found. option_map (λ p. (p.0, p.1.now)) found ≡ attribute_at last bytes.now) }
 {
     match parts_of(bytes) {
@@ -35,7 +37,7 @@ fn attribute_of(
                 return Ok(None);
             };
             let attribute = Attribute {
-                name: Items::from_slice(alloc, parts.name)?,
+                name: Name::spelled(parts.name),
                 value,
                 span: span_between(last, parts.own, parts.rest),
             };
@@ -45,7 +47,7 @@ fn attribute_of(
 }
 
 /// A list with room for the attributes of most tags, if there is any.
-fn room(alloc: Global, bytes: &[u8]) -> Result<Vec<Attribute>, AllocError>
+fn room<'a>(alloc: Global, bytes: &'a [u8]) -> Result<Vec<Attribute<'a>>, AllocError>
     ensures { IfOk result (λ list. list.items ≡ []) }
 {
     if bytes.is_empty() || bytes[0] == b'>' || bytes[0] == b'/' {
@@ -58,7 +60,7 @@ fn attributes_of(
     alloc: Global,
     last: u64,
     bytes: &[u8],
-) -> Result<(Items<Attribute>, &[u8]), AllocError>
+) -> Result<(Items<Attribute<'_>>, &[u8]), AllocError>
     ensures { IfOk result (λ found. (found.0, found.1.now) ≡ attributes_at last bytes.now) }
 {
     let mut found = room(alloc, bytes)?;
@@ -75,49 +77,33 @@ fn attributes_of(
     Ok((Items::from_vec(found), rest))
 }
 
-fn end_token_of(
-    alloc: Global,
-    last: u64,
-    bytes: &[u8],
-) -> Result<Option<(Token, &[u8])>, AllocError>
-    ensures { IfOk result (λ found. option_map (λ p. (p.0, p.1.now)) found ≡ end_token last bytes.now) }
+fn end_token_of(last: u64, bytes: &[u8]) -> Option<(Token<'_>, &[u8])>
+    ensures { option_map (λ p. (p.0, p.1.now)) result ≡ end_token last bytes.now }
 {
-    match end_of(bytes) {
-        None => Ok(None),
-        Some((name, rest)) => {
-            let token = Token {
-                kind: Kind::End(Items::from_slice(alloc, name)?),
-                span: span_between(last, bytes, rest),
-            };
-            Ok(Some((token, rest)))
-        }
-    }
+    let (name, rest) = end_of(bytes)?;
+    let token = Token {
+        kind: Kind::End(Name::spelled(name)),
+        span: span_between(last, bytes, rest),
+    };
+    Some((token, rest))
 }
 
-fn text_token_of(
-    alloc: Global,
-    last: u64,
-    bytes: &[u8],
-) -> Result<Option<(Token, &[u8])>, AllocError>
-    ensures { IfOk result (λ found. option_map (λ p. (p.0, p.1.now)) found ≡ text_token last bytes.now) }
+fn text_token_of(last: u64, bytes: &[u8]) -> Option<(Token<'_>, &[u8])>
+    ensures { option_map (λ p. (p.0, p.1.now)) result ≡ text_token last bytes.now }
 {
-    match text_of(bytes) {
-        None => Ok(None),
-        Some((value, rest)) => {
-            let token = Token {
-                kind: Kind::Text(Items::from_slice(alloc, value)?),
-                span: span_between(last, bytes, rest),
-            };
-            Ok(Some((token, rest)))
-        }
-    }
+    let (value, rest) = text_of(bytes)?;
+    let token = Token {
+        kind: Kind::Text(Content::spelled(value)),
+        span: span_between(last, bytes, rest),
+    };
+    Some((token, rest))
 }
 
 fn tag_token_of(
     alloc: Global,
     last: u64,
     bytes: &[u8],
-) -> Result<Option<(Token, &[u8])>, AllocError>
+) -> Result<Option<(Token<'_>, &[u8])>, AllocError>
     ensures { IfOk result (λ found. option_map (λ p. (p.0, p.1.now)) found ≡ tag_token last bytes.now) }
 {
     let Some((name, after)) = begin_of(bytes) else {
@@ -127,7 +113,7 @@ fn tag_token_of(
     let Some((is_empty, rest)) = close_of(behind_space(after)) else {
         return Ok(None);
     };
-    let name = Items::from_slice(alloc, name)?;
+    let name = Name::spelled(name);
     let span = span_between(last, bytes, rest);
     let kind = if is_empty {
         Kind::Empty(name, attributes)
@@ -141,7 +127,7 @@ fn reference_token_of(
     alloc: Global,
     last: u64,
     bytes: &[u8],
-) -> Result<Option<(Token, &[u8])>, AllocError>
+) -> Result<Option<(Token<'_>, &[u8])>, AllocError>
     ensures { IfOk result (λ found. option_map (λ p. (p.0, p.1.now)) found ≡ reference_token last bytes.now) }
 {
     match reference_of(bytes) {
@@ -150,7 +136,7 @@ fn reference_token_of(
             let mut buffer = [0; 4];
             let value = character.encode_utf8(&mut buffer).as_bytes();
             let token = Token {
-                kind: Kind::Reference(Items::from_slice(alloc, value)?),
+                kind: Kind::Reference(Content::made(Vec::from_slice(alloc, value)?)),
                 span: span_between(last, bytes, rest),
             };
             Ok(Some((token, rest)))
@@ -158,7 +144,7 @@ fn reference_token_of(
     }
 }
 
-fn comment_token_of(last: u64, bytes: &[u8]) -> Option<(Token, &[u8])>
+fn comment_token_of(last: u64, bytes: &[u8]) -> Option<(Token<'_>, &[u8])>
     ensures { option_map (λ p. (p.0, p.1.now)) result ≡ comment_token last bytes.now }
 {
     let (_, rest) = enclosed_of(b"<!--", b"-->", bytes)?;
@@ -169,7 +155,7 @@ fn comment_token_of(last: u64, bytes: &[u8]) -> Option<(Token, &[u8])>
     Some((token, rest))
 }
 
-fn instruction_token_of(last: u64, bytes: &[u8]) -> Option<(Token, &[u8])>
+fn instruction_token_of(last: u64, bytes: &[u8]) -> Option<(Token<'_>, &[u8])>
     ensures { option_map (λ p. (p.0, p.1.now)) result ≡ instruction_token last bytes.now }
 {
     let (_, rest) = enclosed_of(b"<?", b"?>", bytes)?;
@@ -180,30 +166,22 @@ fn instruction_token_of(last: u64, bytes: &[u8]) -> Option<(Token, &[u8])>
     Some((token, rest))
 }
 
-fn cdata_token_of(
-    alloc: Global,
-    last: u64,
-    bytes: &[u8],
-) -> Result<Option<(Token, &[u8])>, AllocError>
-    ensures { IfOk result (λ found. option_map (λ p. (p.0, p.1.now)) found ≡ cdata_token last bytes.now) }
+fn cdata_token_of(last: u64, bytes: &[u8]) -> Option<(Token<'_>, &[u8])>
+    ensures { option_map (λ p. (p.0, p.1.now)) result ≡ cdata_token last bytes.now }
 {
-    match enclosed_of(b"<![CDATA[", b"]]>", bytes) {
-        None => Ok(None),
-        Some((value, rest)) => {
-            let token = Token {
-                kind: Kind::Cdata(Items::from_slice(alloc, value)?),
-                span: span_between(last, bytes, rest),
-            };
-            Ok(Some((token, rest)))
-        }
-    }
+    let (value, rest) = enclosed_of(b"<![CDATA[", b"]]>", bytes)?;
+    let token = Token {
+        kind: Kind::Cdata(Content::spelled(value)),
+        span: span_between(last, bytes, rest),
+    };
+    Some((token, rest))
 }
 
 fn other_token_of(
     alloc: Global,
     last: u64,
     bytes: &[u8],
-) -> Result<Option<(Token, &[u8])>, AllocError>
+) -> Result<Option<(Token<'_>, &[u8])>, AllocError>
     ensures { IfOk result (λ found. option_map (λ p. (p.0, p.1.now)) found ≡ other_token last bytes.now) }
 {
     if let Some(found) = reference_token_of(alloc, last, bytes)? {
@@ -215,7 +193,7 @@ fn other_token_of(
     if let Some(found) = instruction_token_of(last, bytes) {
         return Ok(Some(found));
     }
-    cdata_token_of(alloc, last, bytes)
+    Ok(cdata_token_of(last, bytes))
 }
 
 /// The token that the bytes of a file of that length begin with, and what follows it.
@@ -223,16 +201,16 @@ pub fn token_of(
     alloc: Global,
     last: u64,
     bytes: &[u8],
-) -> Result<Option<(Token, &[u8])>, AllocError>
+) -> Result<Option<(Token<'_>, &[u8])>, AllocError>
     ensures { IfOk result (λ found. option_map (λ p. (p.0, p.1.now)) found ≡ token_at last bytes.now) }
 {
-    if let Some(found) = end_token_of(alloc, last, bytes)? {
+    if let Some(found) = end_token_of(last, bytes) {
         return Ok(Some(found));
     }
     if let Some(found) = tag_token_of(alloc, last, bytes)? {
         return Ok(Some(found));
     }
-    if let Some(found) = text_token_of(alloc, last, bytes)? {
+    if let Some(found) = text_token_of(last, bytes) {
         return Ok(Some(found));
     }
     other_token_of(alloc, last, bytes)

@@ -4,9 +4,9 @@ ghost use Rattle.std.specs.Option.{option_map};
 ghost use Rattle.plcx_xml.specs.Pieces.{shown, shown_piece, Pieced};
 ghost use Rattle.plcx_xml.specs.Reads.{piece_at, value_of, many};
 
+use crate::content::Content;
 use crate::lexing::plain_len;
 use crate::reference::reference_of;
-use sqlite_items::Items;
 use std::alloc::{AllocError, Global};
 
 /// Bytes that stand for themselves, or the character of a reference.
@@ -57,13 +57,17 @@ fn pieces_of(alloc: Global, written: &[u8]) -> Result<(Vec<u8>, &[u8]), AllocErr
     Ok((value, rest))
 }
 
-/// The value that is written so, if each `&` in it begins a reference.
-pub fn value_of(alloc: Global, written: &[u8]) -> Result<Option<Items<u8>>, AllocError>
+/// The value that is written so, if each `&` in it begins a reference. Without a `&` it stands there as it is.
+#[tactic(auto, using(crate::proofs::WrittenLaws::plain_written))]
+pub fn value_of(alloc: Global, written: &[u8]) -> Result<Option<Content<'_>>, AllocError>
     ensures { IfOk result (λ found. found ≡ value_of written.now) }
 {
+    if plain_len(written) == written.len() {
+        return Ok(Some(Content::spelled(written)));
+    }
     let (value, rest) = pieces_of(alloc, written)?;
     if rest.is_empty() {
-        Ok(Some(Items::from_vec(value)))
+        Ok(Some(Content::made(value)))
     } else {
         Ok(None)
     }

@@ -4,7 +4,8 @@ use Rattle.plcx_lex.specs.Token.{Token}
 use Rattle.plcx_lex.specs.declared.terminal.Terminal.{Terminal}
 use Rattle.plcx_lex.specs.declared.terminal.Terminal.TheVariants as t
 use Rattle.plcx_lex.specs.Terminal.{terminal}
-use Rattle.plcx_st.specs.Grammar.{word, operator, level, tightest}
+use Rattle.plcx_st.specs.Grammar.{word, operator, level}
+use Rattle.plcx_st.specs.Binding.{tightest}
 use Rattle.plcx_st.specs.declared.tree.Op.{Op}
 use Rattle.plcx_st.specs.declared.tree.Expr.{Expr}
 use Rattle.plcx_st.specs.declared.tree.Expr.TheVariants as e

@@ -1,7 +1,4 @@
-use Rattle.std.proofs.Common.{◌∙◌, sym, ap, option_map, option_and_then}
-use Rattle.plcx_rules.specs.Callees.{BlockPin, pin_named, outputs_of_type}
-use Rattle.plcx_names.specs.declared.variables.Declared.{Declared}
-use Rattle.plcx_names.specs.declared.helds.Held.TheVariants.{Output}
+use Rattle.std.proofs.Common.{◌∙◌, sym}
 use Rattle.plcx_names.proofs.HeldNames.{member_at}
 use Rattle.plcx_names.proofs.helds.held_at.Goals as goal
 

@@ -11,7 +11,7 @@ loop-turn-preserved c =
 
 pub returns-in_err-x-clause-gives : goal.returns-in_err-x-clause-gives
 returns-in_err-x-clause-gives c =
-    let p = err_from_is_err_and c.from_residual.result c.from_residual.ensures.1 in
+    let p = err_from_is_err_and c.from_residual-in_err-x.result c.from_residual-in_err-x.ensures.1 in
     rw (p.1, p.2, ← c.loop-turn.invariant.0)
     (parted_fails (spec.argument c.args.allowance) (length c.args.tokens.now + 1) c.loop-turn._turn c.loop-turn.found.items c.loop-turn.depth c.loop-turn.rest.now c.args.end c.in_err-x.field-0.0 (omega arith) c.in_err-x.ensures.gives)
 

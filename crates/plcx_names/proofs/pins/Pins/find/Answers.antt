@@ -1,4 +1,4 @@
-use Rattle.std.proofs.Common.{◌∙◌, List, ap, sym, option_map}
+use Rattle.std.proofs.Common.{◌∙◌, List, ap, option_map}
 use Rattle.std.specs.List.{find}
 use Rattle.plcx_rules.specs.Callees.{BlockPin}
 use Rattle.plcx_names.specs.Seen.{shown_pin, is_pin}

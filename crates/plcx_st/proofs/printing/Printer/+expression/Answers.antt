@@ -2,7 +2,8 @@ use Rattle.std.proofs.Common.{◌≤◌, ◌+◌, ◌++◌, map, ◌<◌, refl, 
 use Rattle.plcx_meaning.specs.Tree as tree
 use Rattle.plcx_st.specs.declared.printing.Printer.{Printer}
 use Rattle.plcx_st.specs.Meant.{op_meant, expr_meant}
-use Rattle.plcx_st.specs.Print.{level, list_shapes}
+use Rattle.plcx_st.specs.Binding.{level}
+use Rattle.plcx_st.specs.Print.{list_shapes}
 use Rattle.plcx_st.specs.Printer.{Puts}
 use Rattle.plcx_st.proofs.Puts.{puts_after, on_ok, puts_brackets, puts_operator, not_first}
 use Rattle.plcx_st.proofs.Shapes.{number_shapes, name_shapes, member_shapes, call_shapes, not_shapes, loose_shapes, tight_shapes, no_expressions, one_more_expression, comma_behind, with_comma, with_no_comma}
@@ -33,9 +34,9 @@ expression-returns-in_ok-word-in-Not t c =
 pub expression-returns-in_ok-expression-in-Binary-2 : goal.expression-returns-in_ok-expression-in-Binary-2
 expression-returns-in_ok-expression-in-Binary-2 t c =
     let o = c.in-Binary.op in
-    let lt : level (op_meant o) < c.args.least = omega (arith, c.level.ensures, c.if-level-least.true) in
-    let x = rw (c.level-then-level-least.ensures, c.get-then-level-least.ensures) at c.in_ok-expression-in-Binary.ensures in
-    let y = rw (c.level-then-level-least-2.ensures, c.get-then-level-least-2.ensures, add-one) at c.in_ok-expression-in-Binary-2.ensures in
+    let lt : level (op_meant o) < c.args.least = omega (arith, c.level.ensures.value, c.if-level-least.true) in
+    let x = rw (c.level-then-level-least.ensures.value, c.get-then-level-least.ensures) at c.in_ok-expression-in-Binary.ensures in
+    let y = rw (c.level-then-level-least-2.ensures.value, c.get-then-level-least-2.ensures, add-one) at c.in_ok-expression-in-Binary-2.ensures in
     rw (c.in-Binary.is, loose_shapes c.args.least o c.in-Binary.left c.in-Binary.right lt) (on_ok c.sign-then-level-least-2.result (λ h.
     puts_brackets c.args.self.now c.sign-then-level-least.new.self c.expression-then-level-least-2.new.self c.sign-then-level-least-2.new.self _ c.in_ok-sign-in-Binary.ensures
     (puts_operator c.sign-then-level-least.new.self c.expression-then-level-least.new.self c.operator.new.self c.expression-then-level-least-2.new.self (op_meant o) _ _ x c.in_ok-operator-in-Binary.ensures y) h) c.sign-then-level-least-2.ensures)
@@ -43,9 +44,9 @@ expression-returns-in_ok-expression-in-Binary-2 t c =
 pub expression-returns-in_ok-operator-in-Binary-2 : goal.expression-returns-in_ok-operator-in-Binary-2
 expression-returns-in_ok-operator-in-Binary-2 t c =
     let o = c.in-Binary.op in
-    let le : c.args.least ≤ level (op_meant o) = omega (arith, c.level.ensures, c.if-level-least.false) in
-    let x = rw (c.level-else-level-least.ensures, c.get-else-level-least.ensures) at c.in_ok-expression-in-Binary-3.ensures in
-    let y = rw (c.level-else-level-least-2.ensures, c.get-else-level-least-2.ensures, add-one) at c.expression-else-level-least-2.ensures in
+    let le : c.args.least ≤ level (op_meant o) = omega (arith, c.level.ensures.value, c.if-level-least.false) in
+    let x = rw (c.level-else-level-least.ensures.value, c.get-else-level-least.ensures) at c.in_ok-expression-in-Binary-3.ensures in
+    let y = rw (c.level-else-level-least-2.ensures.value, c.get-else-level-least-2.ensures, add-one) at c.expression-else-level-least-2.ensures in
     rw (c.in-Binary.is, tight_shapes c.args.least o c.in-Binary.left c.in-Binary.right le) (on_ok c.expression-else-level-least-2.result (λ h.
     puts_operator c.args.self.now c.expression-else-level-least.new.self c.operator-else-level-least.new.self c.expression-else-level-least-2.new.self (op_meant o) _ _ x c.in_ok-operator-in-Binary-2.ensures h) y)
 

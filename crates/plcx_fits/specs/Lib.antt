@@ -1,0 +1,2 @@
+-- What is said of the diagrams of checked projects.
+pub mod Networks

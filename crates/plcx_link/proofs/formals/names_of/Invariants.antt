@@ -1,0 +1,6 @@
+use Rattle.std.proofs.Common.{◌≡◌, ◌++◌, drop, map}
+use Rattle.plcx_rules.specs.LinkRules.{names_of}
+use Rattle.plcx_link.proofs.formals.names_of.Given as goal
+
+abbrev pub invariant-loop-pin : goal.invariant-loop-pin
+invariant-loop-pin l = map (λ n. n.now) l.names.items ++ names_of (drop l.pin-index l.pins) ≡ names_of l.pins
