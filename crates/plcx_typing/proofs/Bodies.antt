@@ -1,10 +1,10 @@
 -- What is found of each body, put together.
-use Rattle.std.proofs.Common.{◌≡◌, ◌≢◌, ℕ, zero, suc, ◌+◌, ◌<◌, ◌≤◌, ◌⊎◌, ◌*◌, ◌++◌, inl, inr, Bool, true, false, List, [], ◌∷◌, if◌then◌else◌, Option, Some, None, length, get_or, slice_get, map, refl, sym, ◌∙◌, ap, subst, arith}
+use Rattle.std.proofs.Common.{◌≡◌, ◌≢◌, ℕ, zero, suc, ◌+◌, ◌<◌, ◌⊎◌, ◌*◌, ◌++◌, inl, inr, Bool, true, false, List, [], ◌∷◌, if◌then◌else◌, Some, None, length, get_or, slice_get, map, refl, sym, ◌∙◌, ap, subst, arith}
 use Rattle.std.specs.Bool.{Decides}
-use Rattle.std.specs.List.{Contains, list_any}
+use Rattle.std.specs.List.{list_any}
 use Rattle.std.proofs.Math.ListN.{get_or-eq_default}
 use Rattle.std.proofs.lemmas.Bool.{cases_lt}
-use Rattle.std.proofs.lemmas.List.{get_or_push, get_or_append_left, get_or_default, length_push, length-map}
+use Rattle.std.proofs.lemmas.List.{get_or_push, get_or_append_left, length-map}
 use Rattle.plcx_types.specs.declared.ty.Ty.{Ty}
 use Rattle.plcx_types.specs.declared.ty.Ty.TheVariants as ty
 use Rattle.plcx_types.specs.TypeName.{all_types}
@@ -19,13 +19,13 @@ use Rattle.plcx_rules.specs.declared.form.WireForm.{WireForm}
 use Rattle.plcx_rules.specs.declared.form.TypeRule.{TypeRule}
 use Rattle.plcx_rules.specs.declared.form.TypeRule.TheVariants.{NoType, Disagreement, Range}
 use Rattle.plcx_rules.specs.declared.form.Form.{Form}
-use Rattle.plcx_rules.specs.Types.{Sheet, no_form, no_pin, form_at, pin_at, sources_at, AtPin, AtGroup, AtOutput, HasType, WireHas}
-use Rattle.plcx_rules.specs.Forms.{wire, form_of, pins_from, wires_from, sheet_of, sheet_at}
+use Rattle.plcx_rules.specs.Types.{Sheet, no_form, no_pin, form_at, pin_at, sources_at, AtPin, AtGroup, HasType, WireHas}
+use Rattle.plcx_rules.specs.Forms.{wire, form_of, pins_from, wires_from, sheet_at}
 use Rattle.plcx_rules.specs.Typed.{wire_at, AreTypes, HaveTypes}
 use Rattle.plcx_rules.specs.TypingRules.{HasNoType, Disagrees, BreaksIn}
 use Rattle.plcx_typing.specs.declared.body.Judged.{Judged}
 use Rattle.plcx_typing.specs.declared.flow.Fact.{Fact}
-use Rattle.plcx_typing.specs.Closure.{is_marked, mark_place, Comes}
+use Rattle.plcx_typing.specs.Closure.{is_marked, Comes}
 use Rattle.plcx_typing.specs.Sheets.{sheet}
 use Rattle.plcx_typing.specs.Flows.{ArePlaced, IsFlowOf, IsGroupPin, FeedsAt}
 use Rattle.plcx_typing.specs.Tests.{AreMarks, gives_has, pin_has}

@@ -1,5 +1,5 @@
 -- What the code makes of what is held is what the definitions say.
-use Rattle.std.proofs.Common.{◌≡◌, ℕ, List, Option, Some, None, option_map, refl}
+use Rattle.std.proofs.Common.{◌≡◌, ℕ, Option, Some, None, option_map, refl}
 use Rattle.std.specs.Option.{option_to_list}
 use Rattle.plcx_types.specs.declared.literal.Literal.TheVariants as literal
 use Rattle.plcx_names.specs.SeenHelds.{held_as}

@@ -1,23 +1,21 @@
 -- The marks of faults say where rules are broken.
-use Rattle.std.proofs.Common.{◌≡◌, ◌≢◌, ℕ, zero, suc, ◌+◌, ◌<◌, ◌≤◌, ◌⊎◌, ◌&&◌, ◌||◌, inl, inr, Bool, true, false, ℤ, List, [], ◌∷◌, Option, Some, None, length, get_or, nat_eq, refl, sym, ◌∙◌, ap, subst, arith}
+use Rattle.std.proofs.Common.{◌≡◌, ◌≢◌, ℕ, zero, suc, ◌<◌, ◌⊎◌, ◌&&◌, ◌||◌, inl, inr, Bool, true, false, List, [], Some, length, nat_eq, refl, sym, ap, subst, arith}
 use Rattle.std.specs.Bool.{Decides}
 use Rattle.std.specs.List.{Contains, list_any}
 use Rattle.std.proofs.lemmas.Bool.{cases_lt}
 use Rattle.std.proofs.lemmas.Bool.Decides.{Decides-and, Decides-or, Decides-like}
 use Rattle.plcx_types.specs.declared.ty.Ty.{Ty}
 use Rattle.plcx_types.specs.declared.ty.Ty.TheVariants as ty
-use Rattle.plcx_types.specs.Range.{InRange}
-use Rattle.plcx_funcs.specs.declared.pins.Class.TheVariants as class
 use Rattle.plcx_model.specs.declared.source.Source.{Source}
 use Rattle.plcx_rules.specs.declared.form.Pin.{Pin}
 use Rattle.plcx_rules.specs.declared.form.Form.{Form}
 use Rattle.plcx_rules.specs.declared.form.Gives.TheVariants.{Untyped}
 use Rattle.plcx_rules.specs.declared.form.TypeRule.{TypeRule}
 use Rattle.plcx_rules.specs.declared.form.TypeRule.TheVariants.{NoType, Disagreement, Range}
-use Rattle.plcx_rules.specs.Types.{Sheet, form_at, pin_at, sources_at, output_at, gives_at, is_untyped, IsPinOf, AtPin, AtGroup, AtOutput, HasType, TakenAt, Takes}
-use Rattle.plcx_rules.specs.TypingRules.{HasNoType, Disagrees, SourceDiffers, GroupDiffers, GroupIsBarred, LoneIsBarred, LiteralMeetsTime, SeveralMeet, PinIsNoBool, OutputIsNoBool, LiteralIsNoBool, OperandIsNoBool, IsOutside, BreaksIn}
+use Rattle.plcx_rules.specs.Types.{Sheet, form_at, pin_at, sources_at, output_at, gives_at, is_untyped, IsPinOf, AtPin, AtOutput, HasType, TakenAt, Takes}
+use Rattle.plcx_rules.specs.TypingRules.{HasNoType, Disagrees, SourceDiffers, GroupDiffers, GroupIsBarred, LoneIsBarred, LiteralMeetsTime, SeveralMeet, PinIsNoBool, OutputIsNoBool, LiteralIsNoBool, OperandIsNoBool, BreaksIn}
 use Rattle.plcx_typing.specs.Sheets.{sheet}
-use Rattle.plcx_typing.specs.Tests.{AreMarks, is_literal, only, form_disagrees, has_no_type, pin_disagrees, literal_disagrees, literal_outside}
+use Rattle.plcx_typing.specs.Tests.{AreMarks, is_literal, only}
 use Rattle.plcx_typing.specs.Faults.{element_breaks, pin_breaks, literal_breaks, source_raises, pin_raises, any_below, pins_raise, breaks_at}
 use Rattle.plcx_typing.proofs.Deciding.{nat_decides, on_decides, never, any_decides, PinFault, GroupFault, OutputFault, output, NumberFault, pin_fault_decides, no_type_decides, form_fault_decides, literal_fault_decides, outside_decides}
 

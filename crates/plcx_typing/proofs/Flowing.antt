@@ -1,19 +1,18 @@
 -- What flows among groups is what the closure says.
-use Rattle.std.proofs.Common.{◌≡◌, ℕ, zero, suc, ◌+◌, ◌<◌, ◌≤◌, ◌⊎◌, ◌++◌, inl, inr, Bool, true, false, List, [], ◌∷◌, Some, length, get_or, set, refl, sym, ◌∙◌, ap, subst, arith, length-set, get_or-set_same, get_or-set_other}
+use Rattle.std.proofs.Common.{◌≡◌, ℕ, ◌<◌, ◌⊎◌, ◌++◌, inl, inr, Bool, List, [], ◌∷◌, length, set, refl, sym, ◌∙◌, ap, subst, arith, length-set, get_or-set_same, get_or-set_other}
 use Rattle.std.specs.Bool.{Decides}
-use Rattle.std.specs.List.{All, Contains}
+use Rattle.std.specs.List.{Contains}
 use Rattle.std.proofs.lemmas.Bool.{cases_lt, cases_eq}
 use Rattle.std.proofs.Math.ListN.{get_or-eq_default}
 use Rattle.std.proofs.lemmas.List.Elements.{Contains-push, Contains-append_left, Contains-push_cases}
 use Rattle.plcx_types.specs.declared.ty.Ty.{Ty}
 use Rattle.plcx_model.specs.declared.source.Source.{Source}
-use Rattle.plcx_rules.specs.declared.form.Pin.{Pin}
 use Rattle.plcx_rules.specs.declared.form.Gives.{Gives}
 use Rattle.plcx_rules.specs.declared.form.Gives.TheVariants.{Typed, Grouped, Untyped, Nothing}
 use Rattle.plcx_rules.specs.declared.form.Form.{Form}
 use Rattle.plcx_rules.specs.Types.{Sheet, no_form, no_pin, form_at, pin_at, sources_at, output_among, gives_at, IsPinOf, Point, AtPin, AtGroup, AtOutput, HasType, DeclaredPin, DeclaredOutput, GroupOfSource, PinOfGroup, OutputOfGroup, LoneOfSource, LoneOfLiteral}
 use Rattle.plcx_typing.specs.declared.flow.Fact.{Fact}
-use Rattle.plcx_typing.specs.Closure.{fact, next_of, Comes, Seed, Step, IsFlow}
+use Rattle.plcx_typing.specs.Closure.{fact, next_of, Comes, Seed, Step}
 use Rattle.plcx_typing.specs.Flows.{ArePlaced, IsFlowOf, Feeds, FeedsAt, IsGroupPin, Grows}
 
 -- what gives the types of a group is an element

@@ -1,11 +1,9 @@
 -- The pins of a body stand at its elements, and a connector and a continuation have one.
-use Rattle.std.proofs.Common.{◌≡◌, ◌≢◌, ℕ, zero, suc, ◌+◌, ◌-◌, ◌<◌, ◌≤◌, ◌⊎◌, ◌++◌, inl, inr, false, List, [], ◌∷◌, Option, Some, None, map, length, get_or, refl, sym, ◌∙◌, ap, subst, arith}
+use Rattle.std.proofs.Common.{◌≡◌, ◌≢◌, ℕ, zero, suc, ◌+◌, ◌-◌, ◌<◌, ◌≤◌, ◌++◌, inl, inr, List, [], ◌∷◌, Option, Some, None, map, length, get_or, refl, sym, ◌∙◌, ap, arith}
 use Rattle.std.specs.List.{All}
 use Rattle.std.proofs.lemmas.Bool.{cases_lt}
 use Rattle.std.proofs.lemmas.List.{get_or_append_left, get_or_default, length-append, length-map}
-use Rattle.std.proofs.lemmas.List.Elements.{All-nil, All-cons, All-append, All-map}
-use Rattle.plcx_funcs.specs.declared.func.Func.{Func}
-use Rattle.plcx_funcs.specs.declared.func.Func.TheVariants as f
+use Rattle.std.proofs.lemmas.List.Elements.{All-nil, All-cons, All-append}
 use Rattle.plcx_funcs.specs.Pins.{group_types}
 use Rattle.plcx_funcs.specs.declared.allowed.Allowed.{Allowed}
 use Rattle.plcx_funcs.specs.declared.allowed.Allowed.TheVariants as set
@@ -19,9 +17,8 @@ use Rattle.plcx_rules.specs.declared.callee.Callee.{Callee}
 use Rattle.plcx_rules.specs.declared.callee.Callee.TheVariants as callee
 use Rattle.plcx_rules.specs.declared.form.Pin.{Pin}
 use Rattle.plcx_rules.specs.declared.form.Form.{Form}
-use Rattle.plcx_rules.specs.declared.form.Grouping.{Grouping}
-use Rattle.plcx_rules.specs.declared.form.Grouping.TheVariants.{Apart, Function, Passing}
-use Rattle.plcx_rules.specs.Types.{no_form, no_pin, form_at, pin_at, IsPinOf}
+use Rattle.plcx_rules.specs.declared.form.Grouping.TheVariants.{Passing}
+use Rattle.plcx_rules.specs.Types.{no_form, no_pin}
 use Rattle.plcx_rules.specs.Forms.{pin, block_pins, element_pins, form_of, grouping_at, grouping_of, pins_from, sheet_of, input_class_of, in_out_class_of}
 use Rattle.plcx_typing.specs.Flows.{ArePlaced}
 use Rattle.plcx_typing.proofs.OneType.{HaveOnePin}

@@ -1,6 +1,5 @@
 -- The marks of all bodies give the verdict.
-use Rattle.std.proofs.Common.{◌≡◌, ℕ, zero, suc, ◌+◌, ◌-◌, ◌<◌, ◌≤◌, ◌++◌, true, false, List, [], ◌∷◌, Option, Some, None, length, get_or, slice_get, map, refl, sym, ◌∙◌, ap, subst, arith}
-use Rattle.std.specs.Bool.{Decides}
+use Rattle.std.proofs.Common.{◌≡◌, ℕ, zero, suc, ◌+◌, ◌<◌, ◌≤◌, ◌++◌, true, false, List, [], ◌∷◌, Option, Some, None, length, slice_get, refl, sym, ◌∙◌, subst, arith}
 use Rattle.std.proofs.lemmas.List.{length-map}
 use Rattle.plcx_model.specs.declared.broken.Place.{Place}
 use Rattle.plcx_model.specs.declared.broken.Place.TheVariants.{Element}
@@ -11,7 +10,7 @@ use Rattle.plcx_model.specs.Verdict.{IsFirst, Here, Later, Never, Verdict, Broke
 use Rattle.plcx_model.specs.Verdict as verdicts
 use Rattle.plcx_rules.specs.declared.form.TypeRule.{TypeRule}
 use Rattle.plcx_rules.specs.declared.form.TypeRule.TheVariants.{NoType, Disagreement, Range}
-use Rattle.plcx_rules.specs.Items.{Item, items_in, items_from, items_of, place_of}
+use Rattle.plcx_rules.specs.Items.{Item, items_in, items_from, items_of}
 use Rattle.plcx_rules.specs.Forms.{form_of, sheet_at}
 use Rattle.plcx_rules.specs.TypingRules.{BreaksIn, BreaksTyping, type_rules, type_rule_number, type_place}
 use Rattle.plcx_typing.specs.declared.body.Judged.{Judged}

@@ -1,12 +1,11 @@
 -- The rules 34 to 36 as tests, by the marks of the types that come to groups. Only proofs are served by it.
-use Rattle.std.specs.Prelude.{◌≡◌, ℕ, ◌<◌, Bool, true, false, not, ◌&&◌, ◌||◌, List, [], ◌∷◌, Option, Some, None, length, get_or, nat_le, if◌then◌else◌}
+use Rattle.std.specs.Prelude.{ℕ, Bool, true, false, not, ◌&&◌, ◌||◌, List, Option, Some, None, length, nat_le, if◌then◌else◌}
 use Rattle.std.specs.Bool.{Decides}
 use Rattle.std.specs.List.{list_any}
 use Rattle.plcx_types.specs.declared.ty.Ty.{Ty}
 use Rattle.plcx_types.specs.declared.ty.Ty.TheVariants as ty
 use Rattle.plcx_types.specs.TypeName.{same_ty, all_types}
 use Rattle.plcx_types.specs.ReadLiteral.{is_within}
-use Rattle.plcx_funcs.specs.declared.allowed.Allowed.{Allowed}
 use Rattle.plcx_funcs.specs.Types.{is_allowed, is_whole, is_bool, is_time}
 use Rattle.plcx_funcs.specs.declared.pins.Class.{Class}
 use Rattle.plcx_funcs.specs.declared.pins.Class.TheVariants as class

@@ -1,4 +1,4 @@
-use Rattle.std.proofs.Common.{◌≡◌, ◌<◌, length, get_or, sym, ◌∙◌, ap, arith}
+use Rattle.std.proofs.Common.{◌≡◌, length, get_or, ◌∙◌, ap, arith}
 use Rattle.std.proofs.lemmas.List.{length_push}
 use Rattle.plcx_model.specs.declared.project.Pou.{Pou}
 use Rattle.plcx_typing.proofs.Bodies.{judged_more, got_is, got_low}

@@ -1,6 +1,6 @@
 use Rattle.std.proofs.Common.{length, map, sym, ◌∙◌, subst}
 use Rattle.plcx_model.specs.declared.body.BodyElement.{BodyElement}
-use Rattle.plcx_rules.specs.Forms.{form_of, pins_from}
+use Rattle.plcx_rules.specs.Forms.{form_of}
 use Rattle.plcx_typing.specs.Flows.{ArePlaced}
 use Rattle.plcx_typing.proofs.Single.{placed_in}
 use Rattle.plcx_typing.proofs.body.judge.Goals as goal

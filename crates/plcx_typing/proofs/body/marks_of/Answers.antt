@@ -1,4 +1,3 @@
-use Rattle.std.proofs.Common.{◌≡◌, arith}
 use Rattle.plcx_typing.specs.Sheets.{sheet}
 use Rattle.plcx_typing.proofs.Bodies.{marks_are}
 use Rattle.plcx_typing.proofs.body.marks_of.Goals as goal

@@ -1,4 +1,4 @@
-use Rattle.std.proofs.Common.{◌≤◌, length, arith}
+use Rattle.std.proofs.Common.{arith}
 use Rattle.plcx_typing.proofs.Searching.{decided}
 use Rattle.plcx_typing.proofs.closure.comes.Goals as goal
 

@@ -1,4 +1,4 @@
-use Rattle.std.proofs.Common.{ℕ, ◌*◌, ◌-◌}
+use Rattle.std.proofs.Common.{◌*◌, ◌-◌}
 use Rattle.plcx_typing.specs.Closure.{IsSearch, AreMarked}
 use Rattle.plcx_typing.proofs.closure.comes.Given as goal
 

@@ -1,7 +1,5 @@
-use Rattle.std.proofs.Common.{◌≡◌, ◌||◌, ◌<◌, length, ◌∙◌, ap, arith}
+use Rattle.std.proofs.Common.{◌||◌, length, ◌∙◌, ap, arith}
 use Rattle.std.proofs.lemmas.Bool.Decides.{Decides-at}
-use Rattle.plcx_rules.specs.Types.{form_at}
-use Rattle.plcx_rules.specs.TypingRules.{BreaksIn}
 use Rattle.plcx_typing.specs.Sheets.{sheet}
 use Rattle.plcx_typing.specs.Faults.{flag, pins_raise, breaks_at}
 use Rattle.plcx_typing.proofs.Faulting.{breaks_decides}

@@ -1,6 +1,5 @@
-use Rattle.std.proofs.Common.{◌≡◌, ◌<◌, ◌+◌, ◌||◌, ℕ, suc, length, get_or, sym, ◌∙◌, ap, subst, arith}
-use Rattle.plcx_rules.specs.declared.form.Pin.{Pin}
-use Rattle.plcx_rules.specs.Types.{no_pin, pin_at, sources_at}
+use Rattle.std.proofs.Common.{◌≡◌, ◌+◌, ◌||◌, suc, sym, ◌∙◌, ap, arith}
+use Rattle.plcx_rules.specs.Types.{pin_at, sources_at}
 use Rattle.plcx_typing.specs.Sheets.{sheet}
 use Rattle.plcx_typing.specs.Faults.{flag, pin_raises, pins_raise}
 use Rattle.plcx_typing.proofs.Faulting.{or_more, same_raised}
