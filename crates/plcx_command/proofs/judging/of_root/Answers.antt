@@ -10,4 +10,4 @@ pub returns-in-Ok : goal.returns-in-Ok
 returns-in-Ok c = IfOk-weaker c.of_project.result _ _ (λ j h. root_stands (out-Node c.args.root.now) c.in-Ok.project j c.in-Ok.ensures h) c.of_project.ensures
 
 pub returns-in-Err-Broken : goal.returns-in-Err-Broken
-returns-in-Err-Broken c = root_refused (out-Node c.args.root.now) c.in-Err-Broken.broken c.requires (rw c.in-Err-Broken.field-0-is at c.in-Err-Broken.ensures)
+returns-in-Err-Broken c = rw c.in-Err-Broken.field-0-is (root_refused (out-Node c.args.root.now) c.in-Err-Broken.broken c.requires (rw c.in-Err-Broken.field-0-is at c.in-Err-Broken.ensures))
