@@ -3,7 +3,7 @@ use Rattle.std.proofs.Common.{◌≡◌, ◌<◌, ◌+◌, ◌∷◌, ◌++◌, 
 use Rattle.std.specs.Prelude.{◌==◌, ◌||◌, nat_lt, codes}
 use Rattle.std.specs.Char.{to_ascii_lowercase}
 use Rattle.std.specs.List.{flat_map, list_any, list_all}
-use Rattle.std.proofs.lemmas.Bool.{ne_eqb, eqb-true, ltb-false, and_parts, or_parts}
+use Rattle.std.proofs.lemmas.Bool.{ne_eqb, ltb-false, and_parts, or_parts}
 use Rattle.plcx_types.specs.Name.{in_lower_case, is_next_byte, is_identifier}
 use Rattle.plcx_types.specs.Lists.{Each}
 use Rattle.plcx_meaning.proofs.Names.{folded_append}

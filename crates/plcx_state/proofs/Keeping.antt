@@ -1,6 +1,6 @@
 -- Retained states have values of their types.
-use Rattle.std.proofs.Common.{◌≡◌, ◌∷◌, ◌∙◌, ℕ, zero, suc, Bool, true, false, true≢false, List, [], Option, Some, None, map, length, refl, sym, ap, subst, arith}
-use Rattle.std.specs.Prelude.{slice_get, ℤ, pos, if◌then◌else◌}
+use Rattle.std.proofs.Common.{◌≡◌, ◌∷◌, ◌∙◌, ℕ, zero, suc, Bool, true, false, List, [], Option, Some, None, map, refl, sym, ap, subst, arith}
+use Rattle.std.specs.Prelude.{slice_get, if◌then◌else◌}
 use Rattle.std.specs.Option.{option_map}
 use Rattle.std.proofs.lemmas.List.{length-map}
 use Rattle.std.proofs.lemmas.Option.{same_Some, slice_get-map}
@@ -13,15 +13,13 @@ use Rattle.plcx_types.specs.Name.{in_lower_case}
 use Rattle.plcx_types.specs.Range.{InRange}
 use Rattle.plcx_types.specs.Value.{Value}
 use Rattle.plcx_meaning.specs.Base.{Path, same_path}
-use Rattle.plcx_meaning.specs.Layout.{IsLayout}
 use Rattle.plcx_meaning.specs.Layout.{Leaf as Meant}
 use Rattle.plcx_meaning.proofs.Starts.{path_same}
 use Rattle.plcx_state.specs.declared.layout.Leaf.{Leaf}
-use Rattle.plcx_state.specs.Layouts.{Laid, IsLaid, BeginsTyped, meant, all_meant, meant_path, is_kept}
+use Rattle.plcx_state.specs.Layouts.{Laid, IsLaid, BeginsTyped, all_meant, meant_path, is_kept}
 use Rattle.plcx_state.specs.Retains.{Pairwise, Suits, IsRetainedOf, kept_of, initially_kept}
 use Rattle.plcx_state.specs.Lines.{Said, IsLine, AreLines, said_at, kept_by}
 use Rattle.plcx_state.proofs.Pairing.{pairs_from}
-use Rattle.plcx_state.proofs.Eaches.{each_get}
 use Rattle.plcx_state.proofs.Places.{one_leaf}
 
 -- a literal with a type is in its range

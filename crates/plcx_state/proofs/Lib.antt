@@ -9,3 +9,4 @@ pub mod Reading
 pub mod Keeping
 pub mod Storing
 pub mod Meaning
+pub mod Again

@@ -1,36 +1,34 @@
 -- Numbers by leaves, and the stores of the meaning.
-use Rattle.std.proofs.Common.{◌≡◌, ◌∷◌, ◌∙◌, ℕ, zero, suc, Bool, true, false, true≢false, List, [], Option, Some, None, map, set, length, refl, sym, ap, subst, arith, cond}
-use Rattle.std.specs.Prelude.{slice_get, slice_set, ℤ, pos, not, ◌&&◌, ◌||◌, filter, if◌then◌else◌}
-use Rattle.std.specs.List.{list_any, flat_map}
-use Rattle.std.proofs.lemmas.Bool.{and_parts, or_parts, not-true}
+use Rattle.std.proofs.Common.{◌≡◌, ◌∷◌, ◌∙◌, ℕ, zero, suc, Bool, true, false, true≢false, List, [], Option, Some, None, map, set, refl, sym, ap, subst}
+use Rattle.std.specs.Prelude.{slice_get, ℤ, not, ◌&&◌, if◌then◌else◌}
+use Rattle.std.specs.List.{list_any}
+use Rattle.std.proofs.lemmas.Bool.{and_parts, not-true}
 use Rattle.std.specs.Option.{option_map}
 use Rattle.std.proofs.lemmas.List.{length-set}
 use Rattle.std.proofs.lemmas.Option.{same_Some, slice_get-map}
-use Rattle.plcx_types.specs.declared.ty.Ty.{Ty}
 use Rattle.plcx_types.specs.Lists.{Each}
 use Rattle.plcx_types.specs.Range.{InRange}
 use Rattle.plcx_types.specs.Value.{Value}
 use Rattle.plcx_meaning.specs.Base.{Path, same_path, put, is_declared}
-use Rattle.plcx_meaning.specs.Tree.{Mark}
-use Rattle.plcx_meaning.specs.Layout.{Scope, Variable, Spelling, Meaning, Elementary, Composed, meaning, is_kept as is_own_kept, leaf_of, variable_leaves, leaves, layout, is_retained, initial_at, Restart, Warm, Cold, begun as begun_at, restarted as restarted_at, all_apart, declared_leaves, IsRetainedState}
+use Rattle.plcx_meaning.specs.Layout.{Scope, Variable, Spelling, Meaning, Elementary, Composed, meaning, is_kept as is_own_kept, leaf_of, variable_leaves, leaves, is_retained, initial_at, Restart, Warm, Cold, begun as begun_at, restarted as restarted_at, all_apart, declared_leaves, IsRetainedState}
 use Rattle.plcx_meaning.specs.Layout.{Leaf as Meant}
 use Rattle.plcx_meaning.proofs.Lists.{each_flat_map, each_from}
 use Rattle.plcx_meaning.proofs.Starts.{path_same}
 use Rattle.plcx_state.specs.declared.layout.Leaf.{Leaf}
-use Rattle.plcx_state.specs.Layouts.{Laid, IsLaid, meant, all_meant, meant_path, is_kept}
-use Rattle.plcx_state.specs.Retains.{Pairwise, each_with, numbers, at, kept_at, number_of, Agrees, Suits, IsRetainedOf}
-use Rattle.plcx_state.specs.Stores.{Stored, IsStoreOf, start_of, starts_of, begun, all_begun, again, all_again, is_warm, restarted}
+use Rattle.plcx_state.specs.Layouts.{Laid, IsLaid, meant, all_meant, meant_path}
+use Rattle.plcx_state.specs.Retains.{Pairwise, each_with, numbers, at, kept_at, number_of, Suits, IsRetainedOf}
+use Rattle.plcx_state.specs.Stores.{Stored, start_of, starts_of, begun, all_begun, again, all_again, is_warm, restarted}
 use Rattle.plcx_state.specs.Meanings.{IsLayoutOf, OpensAs, RestartsAs, AgreesAt, SetsAs, KeepsAs}
 use Rattle.plcx_state.proofs.Paths.{same_if}
 use Rattle.plcx_state.proofs.Pairing.{pairs_from, pair_at, long}
 use Rattle.plcx_state.proofs.Places.{paths, swapped, one_place, apart_from}
 
-set_there : {A : Type 0} (xs : List A) (i : ℕ) (x y : A) → slice_get (set xs i x) i ≡ Some y → x ≡ y
+pub set_there : {A : Type 0} (xs : List A) (i : ℕ) (x y : A) → slice_get (set xs i x) i ≡ Some y → x ≡ y
 set_there [] i x y e = absurd (cc)
 set_there (z ∷ xs) zero x y e = same_Some x y e
 set_there (z ∷ xs) (suc i) x y e = set_there xs i x y e
 
-set_elsewhere : {A : Type 0} (xs : List A) (i j : ℕ) (x y : A) → (j ≡ i → ⊥) → slice_get (set xs i x) j ≡ Some y → slice_get xs j ≡ Some y
+pub set_elsewhere : {A : Type 0} (xs : List A) (i j : ℕ) (x y : A) → (j ≡ i → ⊥) → slice_get (set xs i x) j ≡ Some y → slice_get xs j ≡ Some y
 set_elsewhere [] i j x y other e = e
 set_elsewhere (z ∷ xs) zero zero x y other e = absurd (other refl)
 set_elsewhere (z ∷ xs) zero (suc j) x y other e = e

@@ -1,7 +1,7 @@
 -- Two lists, item by item.
-use Rattle.std.proofs.Common.{◌≡◌, ◌<◌, ◌≤◌, ◌+◌, subst, ◌∷◌, ◌++◌, ◌∙◌, ℕ, zero, suc, List, [], Option, Some, None, map, take, drop, set, length, get_or, refl, sym, ap, ap₂, arith}
+use Rattle.std.proofs.Common.{◌≡◌, ◌<◌, ◌≤◌, ◌+◌, subst, ◌∷◌, ◌++◌, ◌∙◌, ℕ, zero, suc, List, [], Some, take, drop, set, length, get_or, refl, sym, ap, ap₂, arith}
 use Rattle.std.specs.Prelude.{slice_get}
-use Rattle.std.proofs.lemmas.List.{drop_more, take_more_set, drop-set-lt, append_assoc, take_all, drop_all, append-nil, length-set}
+use Rattle.std.proofs.lemmas.List.{drop_more, take_more_set, drop-set-lt, append_assoc, take_all, drop_all, append-nil}
 use Rattle.plcx_state.specs.Retains.{Pairwise, each_with}
 
 module _ {A B : Type 0} (R : A → B → Type 0) where

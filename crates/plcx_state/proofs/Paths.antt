@@ -1,11 +1,11 @@
 -- Paths of names, and what they are in the words of the meaning.
-use Rattle.std.proofs.Common.{◌≡◌, ◌<◌, length, get_or, ◌↔◌, ◌∷◌, ◌++◌, ◌∙◌, ℕ, Bool, true, false, List, [], Decides, map, reverse, IsTrue, refl, sym, ap, ap₂}
+use Rattle.std.proofs.Common.{◌≡◌, ◌<◌, length, get_or, ◌↔◌, ◌∷◌, ◌++◌, ◌∙◌, ℕ, Bool, true, false, List, [], map, reverse, IsTrue, refl, sym, ap, ap₂}
 use Rattle.std.specs.Prelude.{not, ◌&&◌}
 use Rattle.std.specs.Bool.{one_answer}
 use Rattle.std.specs.List.{list_all}
 use Rattle.std.proofs.lemmas.List.{reverse-append, reverse-reverse, get_or-map}
 use Rattle.indexmap.proofs.ReorderLemmas.{map-reverse}
-use Rattle.plcx_types.specs.Name.{in_lower_case, is_identifier, is_next_byte}
+use Rattle.plcx_types.specs.Name.{in_lower_case}
 use Rattle.plcx_types.specs.Reserved.{is_own}
 use Rattle.plcx_meaning.specs.Base.{Path, same_path, is_declared}
 use Rattle.plcx_meaning.proofs.Names.{bytes_self, own_folded}

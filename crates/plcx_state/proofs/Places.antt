@@ -1,8 +1,7 @@
 -- The first item of a list that passes a test, and leaves whose paths are apart.
-use Rattle.std.proofs.Common.{◌≡◌, ◌<◌, ◌+◌, ◌∷◌, ◌++◌, ◌∙◌, ℕ, zero, suc, Bool, true, false, true≢false, List, [], Option, Some, None, cond, map, refl, sym, ap, subst, arith, zero-add}
-use Rattle.std.specs.Prelude.{slice_get, not, ◌&&◌, ◌||◌}
+use Rattle.std.proofs.Common.{◌≡◌, ◌<◌, ◌+◌, ◌∷◌, ◌∙◌, ℕ, zero, suc, Bool, true, false, true≢false, List, [], Some, None, cond, map, refl, sym, ap, arith, zero-add}
+use Rattle.std.specs.Prelude.{slice_get, not}
 use Rattle.std.specs.List.{position_from, list_any}
-use Rattle.std.specs.Str.{bytes_eq}
 use Rattle.std.proofs.lemmas.Bool.{and_parts, or_parts, not-true, false_from_ne_true}
 use Rattle.std.proofs.lemmas.Option.{same_Some}
 use Rattle.std.proofs.lemmas.Slice.Eq.{bytes_eq-Decides}
@@ -13,7 +12,7 @@ use Rattle.plcx_meaning.specs.Layout.{all_apart}
 use Rattle.plcx_meaning.specs.Layout.{Leaf as Meant}
 use Rattle.plcx_meaning.proofs.Starts.{path_same}
 use Rattle.plcx_state.specs.declared.layout.Leaf.{Leaf}
-use Rattle.plcx_state.specs.Layouts.{meant_path, meant, all_meant, dotted, is_nameless, HasName}
+use Rattle.plcx_state.specs.Layouts.{meant_path, all_meant, dotted, is_nameless, HasName}
 use Rattle.plcx_state.specs.Tables.{path_text, is_printed, printed_at, IsPlain, HasPlainNames, IsTold}
 use Rattle.plcx_state.proofs.Paths.{same_if, meant_from}
 use Rattle.plcx_state.proofs.Eaches.{each_get}

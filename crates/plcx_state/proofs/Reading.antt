@@ -1,28 +1,25 @@
 -- Retained lines as they are read: what is read is what they say, and the first that can't be read is the first that is wrong.
-use Rattle.std.proofs.Common.{◌≡◌, ◌<◌, ◌+◌, ◌∷◌, ◌++◌, ◌∙◌, ℕ, zero, suc, Bool, true, false, true≢false, List, [], Option, Some, None, cond, map, take, drop, set, length, refl, sym, ap, ap₂, subst, arith, zero-add}
-use Rattle.std.specs.Prelude.{slice_get, not, ◌&&◌, ◌||◌, ◌==◌, codes, if◌then◌else◌}
+use Rattle.std.proofs.Common.{Bor, get_or, ◌≡◌, ◌<◌, ◌+◌, ◌∷◌, ◌++◌, ◌∙◌, ℕ, zero, suc, Bool, true, false, true≢false, List, [], Option, Some, None, cond, map, take, drop, set, length, refl, sym, ap, ap₂, subst, arith, zero-add}
+use Rattle.std.specs.Prelude.{slice_get, not, ◌||◌, ◌==◌, codes, if◌then◌else◌}
 use Rattle.std.specs.Option.{option_map, option_and_then}
 use Rattle.std.specs.List.{position, position_from, list_any, filter_map, cons_option}
 use Rattle.std.specs.Str.{bytes_eq}
-use Rattle.std.proofs.lemmas.Bool.{and_parts, and_from, or_parts, or_from, not-true, not_from_false, false_from_ne_true, eqb-true}
+use Rattle.std.proofs.lemmas.Bool.{and_parts, and_from, or_parts, or_from, not-true, not_from_false, eqb-true}
 use Rattle.std.proofs.lemmas.Iterator.Adapters.{position_from-zero}
-use Rattle.std.proofs.lemmas.List.{take-append-drop, take_at, drop_at}
+use Rattle.std.proofs.lemmas.List.{take-append-drop, take_at, take_more, length-map, get_or-map, get_or_default}
 use Rattle.std.proofs.lemmas.Option.{same_Some, slice_get-map, option_and_then_some}
 use Rattle.std.proofs.lemmas.Slice.Eq.{bytes_eq-Decides}
 use Rattle.plcx_types.specs.Name.{in_lower_case}
-use Rattle.plcx_types.specs.Literal.{StandsForValue}
 use Rattle.plcx_types.specs.ReadLiteral.{value_of}
 use Rattle.plcx_types.specs.Value.{Value}
-use Rattle.plcx_types.specs.Lists.{Each}
 use Rattle.plcx_types.proofs.Literals.{value_reads, value_is}
 use Rattle.plcx_meaning.specs.Base.{Path, same_path}
 use Rattle.plcx_meaning.specs.Layout.{all_apart}
-use Rattle.plcx_meaning.proofs.Starts.{path_same}
 use Rattle.plcx_state.specs.declared.layout.Leaf.{Leaf}
 use Rattle.plcx_state.specs.declared.lines.Reading.{Reading}
-use Rattle.plcx_state.specs.Layouts.{meant_path, is_kept, dotted, HasName}
+use Rattle.plcx_state.specs.Layouts.{meant_path, is_kept}
 use Rattle.plcx_state.specs.Retains.{Pairwise, kept_of, all_kept}
-use Rattle.plcx_state.specs.Lines.{Said, IsLine, AreLines, said_at, kept_by}
+use Rattle.plcx_state.specs.Lines.{Said, IsLine, AreLines, IsFirstWrong, said_at, kept_by}
 use Rattle.plcx_state.specs.Tables.{path_text, printed_at, HasPlainNames, IsTold}
 use Rattle.plcx_state.specs.ReadLines.{Parts, parts, parts_at, split, behind_word, line_parts, reading, read_literal_for, read_number, read_parts, read_line, is_free, noted, said_of, line_said, lines_said, drafted, Goes}
 use Rattle.plcx_state.proofs.Paths.{same_if}
@@ -239,7 +236,7 @@ filter_push {X = X} {Y = Y} h (z ∷ xs) x y e = by (h z) (filter_push h xs x y 
     by None r = r
     by (Some w) r = ap (λ zs. w ∷ zs) r
 
-pairs_last : {A B : Type 0} (R : A → B → Type 0) (xs : List A) (x : A) (ys : List B) → Pairwise R (xs ++ x ∷ []) ys → (front : List B) × (y : B) × (ys ≡ front ++ y ∷ []) × Pairwise R xs front × R x y
+pub pairs_last : {A B : Type 0} (R : A → B → Type 0) (xs : List A) (x : A) (ys : List B) → Pairwise R (xs ++ x ∷ []) ys → (front : List B) × (y : B) × (ys ≡ front ++ y ∷ []) × Pairwise R xs front × R x y
 pairs_last R [] x [] h = absurd h
 pairs_last R [] x (y ∷ []) h = ([], y, refl, tt, h.0)
 pairs_last R [] x (y ∷ z ∷ ys) h = absurd h.1
@@ -310,3 +307,33 @@ goes_none leaves draft e = record { lines_are = record { each = tt; apart = refl
 pub kept_drafted : (leaves : List Leaf) (saids : List Said) → all_kept leaves (drafted leaves saids) ≡ kept_by leaves saids
 kept_drafted [] saids = refl
 kept_drafted (l ∷ leaves) saids = ap (λ r. kept_of l (said_at saids (meant_path l.path)) ∷ r) (kept_drafted leaves saids)
+
+-- lines of a slice, one more
+taken : (lines : List (Bor (List ℕ))) (place : ℕ) (x : Bor (List ℕ)) → place < length lines → x ≡ get_or lines place x
+    → take (place + 1) (map (λ (l : Bor (List ℕ)). l.now) lines) ≡ take place (map (λ (l : Bor (List ℕ)). l.now) lines) ++ x.now ∷ []
+taken lines place x lt at =
+    take_more (map (λ (l : Bor (List ℕ)). l.now) lines) place x.now (subst (λ n. place < n) (sym (length-map lines (λ (l : Bor (List ℕ)). l.now))) lt)
+    ∙ ap (λ y. take place (map (λ (l : Bor (List ℕ)). l.now) lines) ++ y ∷ []) (get_or-map (λ (l : Bor (List ℕ)). l.now) lines place x x.now lt ∙ ap (λ (l : Bor (List ℕ)). l.now) (sym at))
+
+slice_more : (leaves : List Leaf) → IsTold leaves → (lines : List (Bor (List ℕ))) (place : ℕ) (x : Bor (List ℕ)) (draft after : List (Option Value)) → place < length lines → x ≡ get_or lines place x
+    → Goes leaves (take place (map (λ (l : Bor (List ℕ)). l.now) lines)) draft → noted draft (read_line leaves x.now) ≡ Some after → Goes leaves (take (place + 1) (map (λ (l : Bor (List ℕ)). l.now) lines)) after
+slice_more leaves told lines place x draft after lt at goes e =
+    subst (λ ls. Goes leaves ls after) (sym (taken lines place x lt at)) (line_more leaves told (take place (map (λ (l : Bor (List ℕ)). l.now) lines)) x.now draft goes after e)
+
+slice_wrong : (leaves : List Leaf) → IsTold leaves → (lines : List (Bor (List ℕ))) (place : ℕ) (x : Bor (List ℕ)) (draft : List (Option Value)) → place < length lines → x ≡ get_or lines place x
+    → Goes leaves (take place (map (λ (l : Bor (List ℕ)). l.now) lines)) draft → noted draft (read_line leaves x.now) ≡ None → IsFirstWrong leaves (map (λ (l : Bor (List ℕ)). l.now) lines) place
+slice_wrong leaves told lines place x draft lt at goes e = record {
+  there = subst (λ n. place < n) (sym (length-map lines (λ (l : Bor (List ℕ)). l.now))) lt;
+  saids = lines_said leaves (take place (map (λ (l : Bor (List ℕ)). l.now) lines));
+  before = goes.lines_are;
+  wrong = λ more are. line_wrong leaves told (take place (map (λ (l : Bor (List ℕ)). l.now) lines)) x.now draft goes e more (subst (λ ls. AreLines leaves ls more) (taken lines place x lt at) are);
+}
+
+-- the same, where the line is told by its place
+pub item_more : (leaves : List Leaf) → IsTold leaves → (lines : List (Bor (List ℕ))) (place : ℕ) (d : Bor (List ℕ)) (draft after : List (Option Value)) → place < length lines
+    → Goes leaves (take place (map (λ (l : Bor (List ℕ)). l.now) lines)) draft → noted draft (read_line leaves (get_or lines place d).now) ≡ Some after → Goes leaves (take (place + 1) (map (λ (l : Bor (List ℕ)). l.now) lines)) after
+item_more leaves told lines place d draft after lt goes e = slice_more leaves told lines place (get_or lines place d) draft after lt (get_or_default lines place d (get_or lines place d) lt) goes e
+
+pub item_wrong : (leaves : List Leaf) → IsTold leaves → (lines : List (Bor (List ℕ))) (place : ℕ) (d : Bor (List ℕ)) (draft : List (Option Value)) → place < length lines
+    → Goes leaves (take place (map (λ (l : Bor (List ℕ)). l.now) lines)) draft → noted draft (read_line leaves (get_or lines place d).now) ≡ None → IsFirstWrong leaves (map (λ (l : Bor (List ℕ)). l.now) lines) place
+item_wrong leaves told lines place d draft lt goes e = slice_wrong leaves told lines place (get_or lines place d) draft lt (get_or_default lines place d (get_or lines place d) lt) goes e

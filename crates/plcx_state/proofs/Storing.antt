@@ -1,8 +1,7 @@
 -- Stores keep their types.
-use Rattle.std.proofs.Common.{◌≡◌, ◌∷◌, ◌∙◌, ℕ, Bool, true, false, List, [], Option, Some, None, map, set, length, refl, sym, ap, subst}
-use Rattle.std.specs.Prelude.{slice_get, ◌&&◌, if◌then◌else◌}
+use Rattle.std.proofs.Common.{◌≡◌, ◌∷◌, ◌∙◌, ℕ, Bool, true, false, List, [], Option, Some, None, set, length, refl, sym, ap}
+use Rattle.std.specs.Prelude.{◌&&◌, if◌then◌else◌}
 use Rattle.std.proofs.lemmas.List.{length-map}
-use Rattle.std.proofs.lemmas.Option.{same_Some}
 use Rattle.plcx_types.specs.Lists.{Each}
 use Rattle.plcx_types.specs.Value.{Value}
 use Rattle.plcx_state.specs.declared.layout.Leaf.{Leaf}
@@ -10,7 +9,7 @@ use Rattle.plcx_state.specs.declared.layout.Memory.{Memory}
 use Rattle.plcx_state.specs.declared.store.Start.{Start}
 use Rattle.plcx_state.specs.Layouts.{Laid, IsLaid, BeginsTyped}
 use Rattle.plcx_state.specs.Retains.{Pairwise, each_with, Suits, IsRetainedOf}
-use Rattle.plcx_state.specs.Stores.{Stored, stored, IsStored, IsStoreOf, HasValue, StaysTyped, start_of, starts_of, memory_start, memory_starts_of, default_for, all_defaults, begun, all_begun, opened, again, all_again, restarted}
+use Rattle.plcx_state.specs.Stores.{Stored, stored, IsStored, IsStoreOf, HasValue, StaysTyped, start_of, starts_of, memory_starts_of, all_defaults, begun, opened, again, restarted}
 use Rattle.plcx_state.proofs.Pairing.{long, pair_at, pairs_set}
 
 -- a value of the type that stood there

@@ -1,5 +1,5 @@
 -- Retained lines: what a file of them stands for, the first of its lines that is wrong, and how a store is printed.
-use Rattle.std.specs.Prelude.{◌≡◌, ◌<◌, ◌+◌, ◌++◌, ℕ, Bool, true, false, List, [], ◌∷◌, Option, Some, None, map, take, length, codes, slice_get, if◌then◌else◌}
+use Rattle.std.specs.Prelude.{◌≡◌, ◌<◌, ◌+◌, ◌++◌, ℕ, true, List, [], ◌∷◌, Option, Some, None, map, take, length, codes, slice_get, if◌then◌else◌}
 use Rattle.bstr.specs.Text.{lines_of, without_terminator}
 use Rattle.plcx_types.specs.Name.{in_lower_case}
 use Rattle.plcx_types.specs.Literal.{StandsForValue}

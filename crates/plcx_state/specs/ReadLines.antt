@@ -1,5 +1,5 @@
 -- Serves proofs: what the reader of retained lines answers.
-use Rattle.std.specs.Prelude.{◌≡◌, ◌+◌, ℕ, Bool, List, [], ◌∷◌, Option, Some, None, map, take, drop, codes, slice_get, slice_set, length, ◌==◌, true, false, if◌then◌else◌}
+use Rattle.std.specs.Prelude.{◌≡◌, ◌+◌, ℕ, Bool, List, Option, Some, None, map, take, drop, codes, slice_get, slice_set, length, ◌==◌, true, false, if◌then◌else◌}
 use Rattle.std.specs.List.{position, filter_map}
 use Rattle.std.specs.Str.{bytes_eq}
 use Rattle.std.specs.Option.{option_map, option_and_then}

@@ -1,5 +1,5 @@
 -- The values of a program's leaves and memories by their numbers, and what restarts do to them.
-use Rattle.std.specs.Prelude.{◌≡◌, ℕ, pos, Bool, true, false, ◌&&◌, List, [], ◌∷◌, Option, Some, None, map, slice_get, if◌then◌else◌}
+use Rattle.std.specs.Prelude.{◌≡◌, ℕ, pos, Bool, true, false, ◌&&◌, List, Option, Some, None, map, slice_get, if◌then◌else◌}
 use Rattle.plcx_types.specs.declared.ty.Ty.{Ty}
 use Rattle.plcx_types.specs.Value.{Value}
 use Rattle.plcx_types.specs.Literal.{value}

@@ -6,6 +6,7 @@
 //! lines.
 #![tactic(auto)]
 
+mod law;
 mod layout;
 mod lines;
 mod path;
@@ -13,6 +14,7 @@ mod retained;
 mod store;
 mod table;
 
+pub use law::{lines_are_read_again, states_are_retained, values_are_stores};
 pub use layout::{Layout, Leaf, Memory};
 pub use lines::{RetainError, print_retained, read_retained};
 pub use path::Path;

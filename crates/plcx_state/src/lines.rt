@@ -161,8 +161,9 @@ fn note_lines(
     ensures err { IfErr result (WhyNotLines table.now (map (λ l. l.now) lines.now)) }
 {
     let mut draft = unsaid(alloc, table.leaves())?;
-    for (place, line) in lines.iter().enumerate() {
-        if !note_line(alloc, table, *line, &mut draft)? {
+    for place in 0..lines.len() {
+        let went = note_line(alloc, table, lines[place], &mut draft)?;
+        if !went {
             return Err(RetainError::Line {
                 line: place as u64 + 1,
             });

@@ -1,4 +1,4 @@
-use Rattle.std.proofs.Common.{◌≡◌, ◌++◌, drop, length}
+use Rattle.std.proofs.Common.{◌≡◌, ◌++◌, drop}
 use Rattle.plcx_state.specs.Lines.{retained_lines}
 use Rattle.plcx_state.proofs.lines.all_lines.Given as goal
 

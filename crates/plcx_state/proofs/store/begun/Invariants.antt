@@ -1,4 +1,4 @@
-use Rattle.std.proofs.Common.{◌≡◌, ◌++◌, drop, length}
+use Rattle.std.proofs.Common.{◌≡◌, ◌++◌, drop}
 use Rattle.plcx_state.specs.Retains.{each_with}
 use Rattle.plcx_state.specs.Stores.{begun, all_begun}
 use Rattle.plcx_state.proofs.store.begun.Given as goal

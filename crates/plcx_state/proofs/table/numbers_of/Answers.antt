@@ -1,10 +1,8 @@
-use Rattle.std.proofs.Common.{◌≡◌, take, sym, subst}
 use Rattle.std.specs.Map.{lookup}
 use Rattle.std.specs.Str.{bytes_eq}
-use Rattle.plcx_types.specs.Lists.{Each}
 use Rattle.plcx_state.specs.Tables.{is_printed, printed_at, HasPlainNames}
 use Rattle.plcx_state.proofs.Tables.{more, done}
-use Rattle.plcx_state.proofs.Eaches.{each_more, each_all}
+use Rattle.plcx_state.proofs.Eaches.{each_more}
 use Rattle.plcx_state.proofs.table.numbers_of.Goals as goal
 
 pub loop-number-preserved : goal.loop-number-preserved
