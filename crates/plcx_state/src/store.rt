@@ -4,7 +4,8 @@ ghost use Rattle.plcx_types.specs.Range.{InRange};
 ghost use Rattle.plcx_meaning.specs.Layout.{Warm, Cold};
 ghost use Rattle.plcx_state.specs.Meanings.{OpensAs, RestartsAs};
 ghost use Rattle.plcx_state.specs.Retains.{IsRetainedOf};
-ghost use Rattle.plcx_state.specs.Stores.{IsStored, IsStoreOf, HasValue, starts_of, memory_starts_of, start_of, memory_start, all_begun, default_for, all_defaults, opened, again, all_again, restarted};
+ghost use Rattle.plcx_state.specs.Stores.{IsStored, IsStoreOf, HasValue, starts_of, memory_starts_of, start_of};
+ghost use Rattle.plcx_state.specs.Stores.{memory_start, all_begun, default_for, all_defaults, opened, again, all_again, restarted};
 
 use crate::layout::{Layout, Leaf, Memory};
 use crate::retained::Retained;
