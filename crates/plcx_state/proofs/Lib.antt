@@ -1,0 +1,12 @@
+pub mod Paths
+pub mod Pairing
+pub mod Eaches
+pub mod Tables
+pub mod Inserted
+pub mod Dots
+pub mod Places
+pub mod Reading
+pub mod Keeping
+pub mod Storing
+pub mod Meaning
+pub mod Again
