@@ -1,6 +1,0 @@
-use Rattle.std.proofs.Common.{◌≡◌, ◌++◌, ◌+◌, drop}
-use Rattle.plcx_scan.specs.Texts.{rows_text}
-use Rattle.plcx_scan.proofs.text.push_rows.Given as goal
-
-abbrev pub invariant-loop-place : goal.invariant-loop-place
-invariant-loop-place l = l.text.items ++ rows_text (l.place + 1) (drop l.place l.rows) ≡ l.fn.text.items ++ rows_text 1 l.rows
