@@ -13,16 +13,22 @@ sys.dont_write_bytecode = True
 from rules import FUNCS, RANGE, STANDARD, TYPES, N, literal
 
 COMMON = ['BOOL'] * 8 + ['INT'] * 4 + ['DINT'] * 3 + ['TIME'] * 2 + ['WORD'] * 2 + ['BYTE', 'SINT', 'USINT', 'UINT', 'UDINT', 'DWORD', 'LINT', 'ULINT', 'LWORD']
-NAMES = ['A', 'b', 'Go', 'Stop', 'X1', 'y_2', 'Level', 'Sum', 'IN', 'OUT', 'Q', 'CV', 'K', 'N', 'PT', 'Zahl', 'ready', 'M', '_v', 'Count', 'G', 'IN1', 'S1', 'Temp', 'Lamp', 'Q1', 'Run', 'R', 'ET', 'IN0', 'Valve', 'CLK', 'w']
+NAMES = ['A', 'b', 'Go', 'Stop', 'X1', 'y_2', 'Level', 'Sum', 'IN', 'OUT', 'Q', 'CV', 'K', 'N', 'PT', 'Zahl', 'ready', 'M', '_v', 'Count', 'G', 'IN1',
+         'S1', 'Temp', 'Lamp', 'Q1', 'Run', 'R', 'ET', 'IN0', 'Valve', 'CLK', 'w']
 POUS = ['Main', 'Pump', 'Step', 'Filter_1', 'Gate', 'Loop', 'Press', 'IN2', 'z']
 PLAIN_FUNCS = [f for f in FUNCS if '_TO_' not in f]
 CONVERSIONS = [f for f in FUNCS if '_TO_' in f]
 # how often a change is tried, 2 where it isn't listed
-WEIGHTS = {'bad_id': 1, 'bad_ref': 1, 'bad_ref_to_another_body': 1, 'bad_formal': 2, 'bad_output_gone': 1, 'bad_output_more': 2, 'bad_wire_to_a_connector': 2, 'bad_second_wire': 4, 'bad_no_wire': 1,
-           'bad_block_type': 2, 'bad_instance': 2, 'bad_pin_gone': 1, 'bad_pin_name': 1, 'bad_pin_twice': 1, 'bad_pin_more': 1, 'bad_pin_to_other_side': 1, 'bad_in_out_gone': 4, 'bad_many_inputs': 2, 'bad_few_inputs': 3,
-           'bad_text': 4, 'bad_contact_text': 3, 'bad_member': 3, 'bad_target': 4, 'bad_in_out': 14, 'bad_in_out_type': 4, 'bad_connector': 9, 'bad_label': 5, 'bad_modifier': 3, 'bad_two_modifiers': 6, 'bad_negation': 3, 'bad_negated_number': 8,
-           'bad_language': 4, 'bad_untyped': 4, 'bad_declared_type': 5, 'bad_list': 3, 'bad_literal': 5, 'bad_new_literal': 5, 'bad_shared_literal': 8, 'bad_rewire': 5, 'bad_swap': 3, 'bad_new_name': 3, 'bad_contact_variable': 5,
-           'bad_several': 8, 'bad_lone': 4, 'bad_time_literal': 3, 'bad_rail': 3}
+WEIGHTS = {
+    'bad_id': 1, 'bad_ref': 1, 'bad_ref_to_another_body': 1, 'bad_output_gone': 1, 'bad_second_wire': 4,
+    'bad_no_wire': 1, 'bad_pin_gone': 1, 'bad_pin_name': 1, 'bad_pin_twice': 1, 'bad_pin_more': 1,
+    'bad_pin_to_other_side': 1, 'bad_in_out_gone': 4, 'bad_few_inputs': 3, 'bad_text': 4, 'bad_contact_text': 3,
+    'bad_member': 3, 'bad_target': 4, 'bad_in_out': 14, 'bad_in_out_type': 4, 'bad_connector': 9,
+    'bad_label': 5, 'bad_modifier': 3, 'bad_two_modifiers': 6, 'bad_negation': 3, 'bad_negated_number': 8,
+    'bad_language': 4, 'bad_untyped': 4, 'bad_declared_type': 5, 'bad_list': 3, 'bad_literal': 5,
+    'bad_new_literal': 5, 'bad_shared_literal': 8, 'bad_rewire': 5, 'bad_swap': 3, 'bad_new_name': 3,
+    'bad_contact_variable': 5, 'bad_several': 8, 'bad_lone': 4, 'bad_time_literal': 3, 'bad_rail': 3,
+}
 
 
 class E(dict):
@@ -53,9 +59,11 @@ class Generator:
     # ------------------------------------------------------------ declarations
 
     def some_type(self):
+        """A type, mostly a common one."""
         return self.r.choice(COMMON) if self.chance(0.93) else self.r.choice(TYPES)
 
     def project(self):
+        """Draws the whole project."""
         r = self.r
         names = r.sample(POUS, r.choice([1, 1, 2, 2, 2, 3]))
         for i, n in enumerate(names):
@@ -99,6 +107,7 @@ class Generator:
         return p
 
     def variables(self, p, cls=None, constant=None):
+        """The variables of a POU, those of some lists where they are named."""
         return [v for l in p.lists for v in l.vars if (cls is None or l.cls in cls) and (constant is None or l.constant == constant)]
 
     def targets(self, p, ty=None):
@@ -347,7 +356,8 @@ class Generator:
         enable = self.enable(p, e)
         ty = group if out == 'group' else out
         shape = r.random()
-        names = ['OUT'] if shape < 0.55 else [''] if shape < 0.62 else [r.choice(['Out1', 'Result', 'Q'])] if shape < 0.7 else ['OUT', 'ENO'] if shape < 0.8 else ['ENO', 'x'] if shape < 0.85 \
+        names = ['OUT'] if shape < 0.55 else [''] if shape < 0.62 else [r.choice(['Out1', 'Result', 'Q'])] if shape < 0.7 \
+            else ['OUT', 'ENO'] if shape < 0.8 else ['ENO', 'x'] if shape < 0.85 \
             else ['ENO', 'OUT'] if shape < 0.9 else [] if shape < 0.95 else ['ENO']
         e.outs = [pin(self.spelt(n)) for n in names]
         for o in e.outs:
@@ -408,6 +418,7 @@ class Generator:
     # ------------------------------------------------------------ changes
 
     def all_wires(self, e):
+        """All connections of an element."""
         return [w for l in [e.wires] + [q.wires for q in e.ins + e.inouts] for w in l]
 
     def holders(self, e):
@@ -525,7 +536,8 @@ class Generator:
         found = self.pick(lambda p, e: [e] if e.kind == 'block' else [])
         if not found:
             return False
-        found[1].type = self.r.choice(['INT_TO_INT', 'REAL_TO_INT', 'Main', 'Add', 'SUB', 'EXPT', '', 'PLUS', 'TIME_TO_DINT', 'BOOL_TO_TIME', ' ADD', 'Standard.TON'] + [q.name for q in self.pous] + list(STANDARD))
+        types = ['INT_TO_INT', 'REAL_TO_INT', 'Main', 'Add', 'SUB', 'EXPT', '', 'PLUS', 'TIME_TO_DINT', 'BOOL_TO_TIME', ' ADD', 'Standard.TON']
+        found[1].type = self.r.choice(types + [q.name for q in self.pous] + list(STANDARD))
         return True
 
     def bad_instance(self):
@@ -591,7 +603,8 @@ class Generator:
         r = self.r
         vs = self.variables(p)
         inst = [v for v in vs if v.block]
-        t = ['Nobody', 'a b', '', 'SINT#200', '1.5', 'T#1m1h', 'NOT ' + e.text, '(%s)' % e.text, e.text + '.', 'TRUE', '1', 'INT#1', 'T#0.0001s', 'T#0.001s', 'ADD', '5 + 1', '1__0', '2#12', '16#', 'BOOL#2', '--1',
+        t = ['Nobody', 'a b', '', 'SINT#200', '1.5', 'T#1m1h', 'NOT ' + e.text, '(%s)' % e.text, e.text + '.', 'TRUE', '1', 'INT#1', 'T#0.0001s', 'T#0.001s',
+             'ADD', '5 + 1', '1__0', '2#12', '16#', 'BOOL#2', '--1',
              '170141183460469231731687303715884105728', '%IX0.0', "'x'"] + [v.name for v in vs]
         for v in inst:
             ins, inouts, outs = self.sides(v.block)
@@ -659,7 +672,8 @@ class Generator:
         if not found:
             return False
         q = found[1]
-        q.update(self.r.choice([{'edge': 'rising'}, {'edge': 'falling'}, {'store': 'set'}, {'store': 'reset'}, {'neg': not q.neg}, {'neg': True, 'edge': 'rising'}, {'neg': True, 'store': 'set'}]))
+        q.update(self.r.choice([{'edge': 'rising'}, {'edge': 'falling'}, {'store': 'set'}, {'store': 'reset'}, {'neg': not q.neg},
+                                {'neg': True, 'edge': 'rising'}, {'neg': True, 'store': 'set'}]))
         return True
 
     def bad_negation(self):
@@ -721,7 +735,8 @@ class Generator:
             found = self.pick(lambda p, e: [e] if e.kind == 'inVariable' else [])
         if not found:
             return False
-        found[1].text = self.r.choice(['2', '-1', '255', '256', '127', '128', '-128', '-129', '32767', '32768', '65535', '65536', '2147483648', '4294967296', '9223372036854775808', '18446744073709551616', '16#FFFF', '+1',
+        found[1].text = self.r.choice(['2', '-1', '255', '256', '127', '128', '-128', '-129', '32767', '32768', '65535',
+                                       '65536', '2147483648', '4294967296', '9223372036854775808', '18446744073709551616', '16#FFFF', '+1',
                                        '170141183460469231731687303715884105727', '1_000', '00', '-0'])
         return True
 
@@ -832,7 +847,8 @@ class Generator:
         found = self.pick(lambda p, e: [e] if e.kind in ('contact', 'coil', 'outVariable') else [])
         if not found:
             return False
-        found[1].update(self.r.choice([{'neg': True, 'edge': 'rising'}, {'neg': True, 'store': 'set'}, {'edge': 'falling', 'store': 'reset'}, {'edge': 'rising', 'store': ''}, {'store': 'set', 'edge': ''}]))
+        found[1].update(self.r.choice([{'neg': True, 'edge': 'rising'}, {'neg': True, 'store': 'set'}, {'edge': 'falling', 'store': 'reset'},
+                                       {'edge': 'rising', 'store': ''}, {'store': 'set', 'edge': ''}]))
         return True
 
     def bad_negated_number(self):
@@ -932,10 +948,12 @@ class Generator:
                 out += c
         if not attribute and text and self.chance(0.04) and ']]>' not in text:
             cut = self.r.randint(0, len(text))
-            return self.r.choice(['<![CDATA[%s]]>' % text, text[:cut].replace('<', '').replace('&', '') + '<!-- c -->' + text[cut:] if '<' not in text and '&' not in text else out])
+            plain = '<' not in text and '&' not in text
+            return self.r.choice(['<![CDATA[%s]]>' % text, text[:cut] + '<!-- c -->' + text[cut:] if plain else out])
         return out
 
     def number(self, n):
+        """A localId, now and then with zeros before it."""
         return ('0' * self.r.randint(1, 3) if self.chance(0.03) else '') + str(n)
 
     def mods(self, q):
@@ -956,7 +974,8 @@ class Generator:
         cs = ''
         for w in wires:
             formal = ' formalParameter="%s"' % self.esc(w.formal, True) if w.formal or self.chance(0.1) else ''
-            cs += '<connection refLocalId="%s"%s%s' % (self.number(w.to.id if isinstance(w.to, E) else w.to), formal, '/>' if self.chance(0.9) else '><position x="1" y="2"/></connection>')
+            to = self.number(w.to.id if isinstance(w.to, E) else w.to)
+            cs += '<connection refLocalId="%s"%s%s' % (to, formal, '/>' if self.chance(0.9) else '><position x="1" y="2"/></connection>')
         return '<connectionPointIn>%s%s</connectionPointIn>' % ('<relPosition x="0" y="8"/>' if self.chance(0.05) else '', cs)
 
     def kids(self, parts):
@@ -969,6 +988,7 @@ class Generator:
         return ''.join(parts)
 
     def element(self, e):
+        """An element with its attributes and parts."""
         k = e.kind
         a = ' localId="%s"' % self.number(e.id)
         if k in ('comment', 'vendorElement'):
@@ -1024,7 +1044,8 @@ class Generator:
             # no connection of the body names a vendor element
             named = {w.to.id if isinstance(w.to, E) else w.to for e in p.elements for w in self.all_wires(e)}
             elements = [e for e in p.elements if not (e.kind == 'vendorElement' and e.id in named)]
-            out.append('<pou name="%s" pouType="%s"><interface>%s</interface><body><%s>\n%s\n</%s></body></pou>' % (p.name, p.kind, lists, tag, '\n'.join(self.element(e) for e in elements), tag))
+            drawn = '\n'.join(self.element(e) for e in elements)
+            out.append('<pou name="%s" pouType="%s"><interface>%s</interface><body><%s>\n%s\n</%s></body></pou>' % (p.name, p.kind, lists, tag, drawn, tag))
         return '<project xmlns="http://www.plcopen.org/xml/tc6_0201"><types><pous>\n%s\n</pous></types></project>\n' % '\n'.join(out)
 
 

@@ -250,7 +250,8 @@ def wires_of(t):
     return [Thing(element=int(c.get('refLocalId')), formal=c.get('formalParameter')) for p in t.all('connectionPointIn') for c in p.all('connection')]
 
 
-ELEMENTS = ('comment', 'vendorElement', 'block', 'inVariable', 'outVariable', 'contact', 'coil', 'connector', 'continuation', 'label', 'jump', 'return', 'leftPowerRail', 'rightPowerRail')
+ELEMENTS = ('comment', 'vendorElement', 'block', 'inVariable', 'outVariable', 'contact', 'coil', 'connector', 'continuation',
+            'label', 'jump', 'return', 'leftPowerRail', 'rightPowerRail')
 LISTS = {'localVars': 'local', 'inputVars': 'input', 'outputVars': 'output', 'inOutVars': 'inout'}
 
 
@@ -632,7 +633,7 @@ class Rules:
             return set(e.carried)
         return self.out_types(e, self.output(e, c.formal))
 
-    def typed_pins(self, p, e):
+    def typed_pins(self, e):
         """The types of each input pin of an element, with its connections and its modifiers or None. A continuation has no pin."""
         if e.kind in ('contact', 'coil', 'jump', 'return', 'rightPowerRail'):
             yield {'BOOL'}, e.wires, None
@@ -665,7 +666,7 @@ class Rules:
         """The types that each untyped literal takes, by its element."""
         r = {}
         for p, e in self.elements():
-            for types, wires, _ in self.typed_pins(p, e):
+            for types, wires, _ in self.typed_pins(e):
                 for c in wires:
                     if self.untyped(p.by_id[c.element]):
                         r.setdefault(id(p.by_id[c.element]), set()).update(types)
@@ -685,7 +686,8 @@ class Rules:
                 yield p, e
 
     def breaks_35(self, p, e, taken):
-        for types, wires, mods in self.typed_pins(p, e):
+        """Whether the types at an element don't agree, where its literals take the types in taken."""
+        for types, wires, mods in self.typed_pins(e):
             for c in wires:
                 if self.source_types(p, c) - types:
                     return True

@@ -68,6 +68,7 @@ class Writer:
         return self.rules.blocks[v.block].name if v.block in self.rules.blocks else v.block
 
     def pou(self, p):
+        """The lines of a POU: its declarations, its memories and wires, its networks."""
         word = 'PROGRAM' if p.kind == 'program' else 'FUNCTION_BLOCK'
         self.rows.append('%s %s' % (word, p.name))
         lists = []
@@ -197,11 +198,13 @@ class Writer:
         return no(x) if negated else x
 
     def set_if(self, cond, target, value):
+        """The IF that gives a variable a value."""
         self.put('IF %s THEN' % cond.text)
         self.put('  %s := %s;' % (target, value))
         self.put('END_IF;')
 
     def element(self, e):
+        """The statements of an element."""
         w = X('PLCX_W%d' % e.id)
         m = X('PLCX_M%d' % e.id)
         mods = e.mods
@@ -249,6 +252,7 @@ class Writer:
                 self.put('PLCX_F%s := PLCX_W%s;' % (t, t))
 
     def block(self, e):
+        """The statements of a block."""
         names = self.rules.outs_named(e)
         ins = {up(i.formal): (k, i) for k, i in enumerate(e.ins)}
         wire = lambda pin: 'PLCX_W%d_%s' % (e.id, pin)
