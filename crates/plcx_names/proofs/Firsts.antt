@@ -58,8 +58,9 @@ more t i xs x o after w h at is before =
 pub more_at : {X : Type 0} (t : X → Bool) (b : Option X → Bool) (i : ℕ) (xs : List X) (o after w : Option ℕ) → i < length xs → ((x : X) → b (Some x) ≡ t x) → after ≡ found_or o (place_if (b (slice_get xs i)) i)
     → found_or o (position_from t i (drop i xs)) ≡ w → found_or after (position_from t (i + 1) (drop (i + 1) xs)) ≡ w
 more_at t b i xs o after w h same is before = elim (slice_get_cases xs i).1 [
-    inl c ↦ more t i xs c.0 o after w h (sym c.3) (is ∙ ap (λ v. found_or o (place_if v i)) (ap b c.2 ∙ same c.0)) before
-  | inr c ↦ absurd (omega (arith, h, c.0)) ]
+  | inl c ↦ more t i xs c.0 o after w h (sym c.3) (is ∙ ap (λ v. found_or o (place_if v i)) (ap b c.2 ∙ same c.0)) before
+  | inr c ↦ absurd (omega (arith, h, c.0))
+]
 
 -- none more
 pub done : {X : Type 0} (t : X → Bool) (i : ℕ) (xs : List X) (o w : Option ℕ) → length xs ≤ i → found_or o (position_from t i (drop i xs)) ≡ w → o ≡ w

@@ -218,7 +218,12 @@ impl<'a> Scope<'a> {
     }
 
     /// The input of that name of the POU at a place.
-    pub fn input_at(&self, alloc: Global, place: u32, name: &[u8]) -> Result<Option<OwnPin<'a>>, AllocError>
+    pub fn input_at(
+        &self,
+        alloc: Global,
+        place: u32,
+        name: &[u8],
+    ) -> Result<Option<OwnPin<'a>>, AllocError>
         ensures { IfOk result (λ pin. option_map shown_pin pin ≡ pin_named name.now (block_pins_at Input self.now place)) }
     {
         let key = in_lower_case(alloc, name)?;
