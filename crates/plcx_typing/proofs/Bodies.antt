@@ -103,6 +103,9 @@ module _ (s : Sheet) (marks : List Bool) (are : AreMarks s marks) where
   abbrev Marked : TypeRule → List Bool → Type 0
   Marked r flags = (length flags ≡ length s.forms) × ((x : ℕ) → x < length s.forms → Decides (flag flags x) (BreaksIn r s x))
 
+  abbrev wire_type : WireForm → Ty
+  wire_type w = first_type (gives_has marks w.element w.gives) all_types
+
   pub judged_so : (wires : List WireForm) (u d o : List Bool) (inputs given : List Ty) → Marked NoType u → Marked Disagreement d → Marked Range o → length inputs ≡ length s.pins
       → ((i : ℕ) → i < length s.pins → get_or inputs i ty.Bool ≡ first_type (pin_has s marks (pin_at s i) (sources_at s i)) all_types)
       → given ≡ map (λ (w : WireForm). first_type (gives_has marks w.element w.gives) all_types) wires → IsJudged s wires (record { untyped = u; disagreeing = d; outside = o; inputs = inputs; wires = given })
@@ -119,7 +122,7 @@ module _ (s : Sheet) (marks : List Bool) (are : AreMarks s marks) where
       | inl on ↦ inl (subst (HasType s (AtPin i)) (sym (pins i low)) ((pin_decides s marks are i (first_type (pin_has s marks (pin_at s i) (sources_at s i)) all_types) low).0 on))
       | inr bool ↦ inr (pins i low ∙ bool)
     ];
-    wire_count = ap length is ∙ length-map wires type_of;
+    wire_count = ap length is ∙ length-map wires wire_type;
     each_wire = λ k t low has.
         let w = wire_at wires k in
         wire_has k low (first_has (gives_has marks w.element w.gives) t (given_so w.element w.gives t has));
@@ -128,14 +131,11 @@ module _ (s : Sheet) (marks : List Bool) (are : AreMarks s marks) where
         elim (first_or (gives_has marks w.element w.gives) all_types) [ inl on ↦ inl (wire_has k low on) | inr bool ↦ inr (wire_is k low ∙ bool) ];
   }
     where
-      abbrev type_of : WireForm → Ty
-      type_of w = first_type (gives_has marks w.element w.gives) all_types
+      wire_is : (k : ℕ) → k < length wires → get_or given k ty.Bool ≡ wire_type (wire_at wires k)
+      wire_is k low = ap (λ xs. get_or xs k ty.Bool) is ∙ map_at wire_type wires k (wire 0 Nothing) ty.Bool low
 
-      wire_is : (k : ℕ) → k < length wires → get_or given k ty.Bool ≡ type_of (wire_at wires k)
-      wire_is k low = ap (λ xs. get_or xs k ty.Bool) is ∙ map_at type_of wires k (wire 0 Nothing) ty.Bool low
-
-      wire_has : (k : ℕ) → k < length wires → gives_has marks (wire_at wires k).element (wire_at wires k).gives (type_of (wire_at wires k)) ≡ true → WireHas s (wire_at wires k) (get_or given k ty.Bool)
-      wire_has k low on = subst (WireHas s (wire_at wires k)) (sym (wire_is k low)) (so_given (wire_at wires k).element (wire_at wires k).gives (type_of (wire_at wires k)) on)
+      wire_has : (k : ℕ) → k < length wires → gives_has marks (wire_at wires k).element (wire_at wires k).gives (wire_type (wire_at wires k)) ≡ true → WireHas s (wire_at wires k) (get_or given k ty.Bool)
+      wire_has k low on = subst (WireHas s (wire_at wires k)) (sym (wire_is k low)) (so_given (wire_at wires k).element (wire_at wires k).gives (wire_type (wire_at wires k)) on)
 
       counts : (r : TypeRule) → length (flags_of r (found_by u d o inputs given)) ≡ length s.forms
       counts NoType = a.0
