@@ -4,7 +4,6 @@ use Rattle.std.specs.List.{filter_map}
 use Rattle.std.specs.Option.{option_map}
 use Rattle.plcx_meaning.specs.Diagram as diagram
 use Rattle.plcx_meaning.specs.Diagram.{DiagramElement}
-use Rattle.plcx_drawn.specs.declared.element.Output.{Output}
 use Rattle.plcx_drawn.specs.declared.element.Source.{Source}
 use Rattle.plcx_drawn.specs.declared.element.Source.TheVariants as source
 use Rattle.plcx_drawn.specs.declared.element.Link.{Link}

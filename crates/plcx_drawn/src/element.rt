@@ -15,10 +15,7 @@ pub struct Output<'a> {
 pub enum Source<'a> {
     Rail,
     /// A literal in the type of its link, and whether its inVariable is negated.
-    Literal {
-        negated: bool,
-        n: i128,
-    },
+    Literal { negated: bool, n: i128 },
     /// An output that is fixed before.
     Wire(Output<'a>),
     /// An output that feeds back.
@@ -38,7 +35,10 @@ pub struct Link<'a> {
 #[derive(Clone, Copy)]
 pub enum Operand<'a> {
     Own(&'a [u8]),
-    Output { instance: &'a [u8], output: &'a [u8] },
+    Output {
+        instance: &'a [u8],
+        output: &'a [u8],
+    },
 }
 
 /// How an outVariable stores what stands at its pin.
