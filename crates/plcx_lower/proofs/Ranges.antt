@@ -3,13 +3,17 @@ use Rattle.std.proofs.Common.{◌≡◌, ℕ, ◌<◌, ◌≤◌, Bool, true, fa
 use Rattle.std.specs.List.{fold}
 use Rattle.plcx_types.specs.Lists.{Each}
 use Rattle.plcx_meaning.specs.Tree.{Operator, Binary, Expression, Not, Apply, expressions}
-use Rattle.plcx_meaning.specs.Diagram.{Link, Contacting, Open, Closed, RisingContact, FallingContact}
-use Rattle.plcx_meaning.specs.Templates.{not_if, or_text, link_text, source_text, contact_text, compared}
-use Rattle.plcx_st.specs.InRange.{ExpressionInRange, ExpressionsInRange}
+use Rattle.plcx_meaning.specs.Diagram.{Link, Contacting, Open, Closed, RisingContact, FallingContact, Storing, Stored, Inverted, Set, Reset}
+use Rattle.plcx_meaning.specs.Templates.{not_if, or_text, link_text, source_text, contact_text, compared, store_text}
+use Rattle.plcx_st.specs.InRange.{ExpressionInRange, ExpressionsInRange, StatementInRange}
 
 pub each_parts : {A : Type 0} (P : A → Type 0) (xs ys : List A) → Each P (xs ++ ys) → Each P xs × Each P ys
 each_parts P [] ys all = (tt, all)
 each_parts P (x ∷ xs) ys all = let rest = each_parts P xs ys all.1 in ((all.0, rest.0), rest.1)
+
+-- of a list within another one
+pub each_within : {A : Type 0} (P : A → Type 0) (xs : List A) (y : A) (ys zs : List A) → Each P (xs ++ (y ∷ (ys ++ zs))) → Each P ys
+each_within P xs y ys zs all = (each_parts P ys zs (each_parts P xs (y ∷ (ys ++ zs)) all).1.1).0
 
 pub each_index : {A B C : Type 0} (P : C → Type 0) (f : B → C) (g : A → B) (xs : List A) (i : ℕ) (d : A) → i < length xs → Each P (map f (map g xs)) → P (f (g (get_or xs i d)))
 each_index P f g [] i d low all = absurd (omega arith)
@@ -47,3 +51,9 @@ compared_parts op so_far e (next ∷ es) h = let parts = compared_parts op (Bina
 pub apply_parts : (es : List Expression) → ExpressionsInRange (expressions es) → Each ExpressionInRange es
 apply_parts [] h = tt
 apply_parts (e ∷ es) h = (h.0, apply_parts es h.1)
+
+pub store_value : (how : Storing) (x : List ℕ) (e : Expression) → StatementInRange (store_text how x e) → ExpressionInRange e
+store_value Stored x e h = h.1
+store_value Inverted x e h = h.1
+store_value Set x e h = h.0
+store_value Reset x e h = h.0

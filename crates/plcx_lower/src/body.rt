@@ -8,7 +8,7 @@ ghost use Rattle.plcx_types.specs.Name.{is_identifier};
 ghost use Rattle.plcx_drawn.specs.Shown.{shown_storing, shown_enable};
 ghost use Rattle.plcx_lower.specs.Adds.{Adds};
 
-use crate::expressions::{truth, turned};
+use crate::expressions::{truth, turned, wire_value};
 use crate::words::{wire_word, word_named};
 use plcx_drawn::{Enable, Storing};
 use plcx_st::{Expr, Stmt, Word};
@@ -43,12 +43,7 @@ pub fn when(alloc: Global, cond: Expr, stmt: Stmt) -> Result<Stmt, NoMemory>
 }
 
 /// A variable gets a value or its opposite, or is set or reset where the value is TRUE.
-pub fn storing(
-    alloc: Global,
-    how: Storing,
-    variable: &[u8],
-    value: Expr,
-) -> Result<Stmt, NoMemory>
+pub fn storing(alloc: Global, how: Storing, variable: &[u8], value: Expr) -> Result<Stmt, NoMemory>
     requires { IsTrue (is_identifier variable.now) }
     ensures { IfOk result (λ s. stmt_meant s ≡ store_text (shown_storing how) variable.now (expr_meant value)) }
 {
@@ -95,7 +90,7 @@ impl Body {
         ensures { OnOk result (Adds self.old self.new (turned_if negated id pin.now)) }
     {
         if negated {
-            let value = Expr::Name(wire_word(self.alloc, id, pin)?);
+            let value = wire_value(self.alloc, id, pin)?;
             let opposite = turned(self.alloc, value)?;
             self.put_wire(id, pin, opposite)
         } else {
@@ -110,7 +105,7 @@ impl Body {
     {
         match &enable.en {
             Some(_) => {
-                let cond = Expr::Name(wire_word(self.alloc, id, b"ENO")?);
+                let cond = wire_value(self.alloc, id, b"ENO")?;
                 let within = when(self.alloc, cond, stmt)?;
                 self.put(within)
             }

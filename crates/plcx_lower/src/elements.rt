@@ -11,7 +11,8 @@ ghost use Rattle.plcx_lower.specs.Adds.{Adds};
 
 use crate::body::{Body, assignment, storing};
 use crate::expressions::{
-    binary, contact_value, link_value, number, operand_value, truth, turned, turned_if,
+    binary, contact_value, edge_value, link_value, number, operand_value, truth, turned, turned_if,
+    wire_value,
 };
 use crate::functions::function_value;
 use crate::words::{edge_word, fed_word, wire_word, word_named};
@@ -127,7 +128,13 @@ impl Body {
     }
 
     /// What a coil stores at an edge, where its wire and what it remembers tell one, and what it remembers.
-    fn put_edge(&mut self, id: u64, variable: &[u8], now: Expr, before: Expr) -> Result<(), NoMemory>
+    fn put_edge(
+        &mut self,
+        id: u64,
+        variable: &[u8],
+        now: Expr,
+        before: Expr,
+    ) -> Result<(), NoMemory>
         requires variable { IsTrue (is_identifier variable.now) }
         requires memory { IsTrue (is_identifier (memory_name (AtEdge id))) }
         requires wire { IsTrue (is_identifier (wire_name id [])) }
@@ -138,7 +145,7 @@ impl Body {
         let edge = binary(self.alloc, Op::And, now, before)?;
         self.put(assignment(target, edge))?;
         let memory = edge_word(self.alloc, id)?;
-        let wire = Expr::Name(wire_word(self.alloc, id, b"")?);
+        let wire = wire_value(self.alloc, id, b"")?;
         self.put(assignment(memory, wire))
     }
 
@@ -147,19 +154,19 @@ impl Body {
         requires { Each StatementInRange (coil_text (shown_coiling how) variable.now (AtEdge id) (wire id [])) }
         ensures { OnOk result (Adds self.old self.new (coil_text (shown_coiling how) variable.now (AtEdge id) (wire id []))) }
     {
-        let wire = Expr::Name(wire_word(self.alloc, id, b"")?);
+        let wire = wire_value(self.alloc, id, b"")?;
         match how {
             Coiling::By(how) => {
                 let stmt = storing(self.alloc, how, variable, wire)?;
                 self.put(stmt)
             }
             Coiling::Rising => {
-                let memory = Expr::Name(edge_word(self.alloc, id)?);
+                let memory = edge_value(self.alloc, id)?;
                 let before = turned(self.alloc, memory)?;
                 self.put_edge(id, variable, wire, before)
             }
             Coiling::Falling => {
-                let memory = Expr::Name(edge_word(self.alloc, id)?);
+                let memory = edge_value(self.alloc, id)?;
                 let now = turned(self.alloc, wire)?;
                 self.put_edge(id, variable, now, memory)
             }
@@ -358,7 +365,7 @@ impl Body {
         ensures { OnOk result (Adds self.old self.new (feed_text id (shown_port port.now) ∷ [])) }
     {
         let memory = fed_word(self.alloc, id, port.pin)?;
-        let wire = Expr::Name(wire_word(self.alloc, id, port.pin)?);
+        let wire = wire_value(self.alloc, id, port.pin)?;
         self.put(assignment(memory, wire))
     }
 

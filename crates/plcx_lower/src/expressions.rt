@@ -1,9 +1,10 @@
 //! What stands at the pins of an element, and what it reads, as expressions.
-ghost use Rattle.std.specs.Prelude.{◌≡◌, map, IfOk};
+ghost use Rattle.std.specs.Prelude.{◌≡◌, map, IsTrue, IfOk};
 ghost use Rattle.plcx_types.specs.Lists.{Each};
-ghost use Rattle.plcx_meaning.specs.Base.{AtEdge};
+ghost use Rattle.plcx_types.specs.Name.{is_identifier};
+ghost use Rattle.plcx_meaning.specs.Base.{AtEdge, AtOutput};
 ghost use Rattle.plcx_meaning.specs.Tree.{Not, Binary};
-ghost use Rattle.plcx_meaning.specs.Templates.{number, truth, not_if, source_text, or_text, link_text, operand_text, contact_text, memory};
+ghost use Rattle.plcx_meaning.specs.Templates.{number, truth, not_if, source_text, or_text, link_text, operand_text, contact_text, wire_name, wire, memory_name, memory};
 ghost use Rattle.plcx_st.specs.Meant.{expr_meant, op_meant};
 ghost use Rattle.plcx_st.specs.InRange.{ExpressionInRange};
 ghost use Rattle.plcx_drawn.specs.Shown.{shown_source, shown_link, shown_operand, shown_contacting};
@@ -65,6 +66,30 @@ pub fn binary(alloc: Global, op: Op, left: Expr, right: Expr) -> Result<Expr, No
     })
 }
 
+/// A wire, by its element and its pin.
+pub fn wire_value(alloc: Global, id: u64, pin: &[u8]) -> Result<Expr, NoMemory>
+    requires { IsTrue (is_identifier (wire_name id pin.now)) }
+    ensures { IfOk result (λ e. expr_meant e ≡ wire id pin.now) }
+{
+    Ok(Expr::Name(wire_word(alloc, id, pin)?))
+}
+
+/// What an element remembers at its edge.
+pub fn edge_value(alloc: Global, id: u64) -> Result<Expr, NoMemory>
+    requires { IsTrue (is_identifier (memory_name (AtEdge id))) }
+    ensures { IfOk result (λ e. expr_meant e ≡ memory (AtEdge id)) }
+{
+    Ok(Expr::Name(edge_word(alloc, id)?))
+}
+
+/// What an output that feeds back was before.
+pub fn fed_value(alloc: Global, id: u64, pin: &[u8]) -> Result<Expr, NoMemory>
+    requires { IsTrue (is_identifier (memory_name (AtOutput id pin.now))) }
+    ensures { IfOk result (λ e. expr_meant e ≡ memory (AtOutput id pin.now)) }
+{
+    Ok(Expr::Name(fed_word(alloc, id, pin)?))
+}
+
 /// What a source stands for in the type of the pin.
 pub fn source_value(alloc: Global, ty: Ty, source: &Source) -> Result<Expr, NoMemory>
     requires { ExpressionInRange (source_text ty (shown_source source.now)) }
@@ -73,8 +98,8 @@ pub fn source_value(alloc: Global, ty: Ty, source: &Source) -> Result<Expr, NoMe
     match source {
         Source::Rail => Ok(truth(true)),
         Source::Literal { negated, n } => turned_if(alloc, *negated, number(ty, *n)),
-        Source::Wire(output) => Ok(Expr::Name(wire_word(alloc, output.element, output.pin)?)),
-        Source::Back(output) => Ok(Expr::Name(fed_word(alloc, output.element, output.pin)?)),
+        Source::Wire(output) => wire_value(alloc, output.element, output.pin),
+        Source::Back(output) => fed_value(alloc, output.element, output.pin),
     }
 }
 
@@ -132,11 +157,16 @@ pub fn contact_value(
         Contacting::Open => binary(alloc, Op::And, wired, value),
         Contacting::Closed => binary(alloc, Op::And, wired, turned(alloc, value)?),
         Contacting::Rising => {
-            let before = turned(alloc, Expr::Name(edge_word(alloc, id)?))?;
-            binary(alloc, Op::And, binary(alloc, Op::And, wired, value)?, before)
+            let before = turned(alloc, edge_value(alloc, id)?)?;
+            binary(
+                alloc,
+                Op::And,
+                binary(alloc, Op::And, wired, value)?,
+                before,
+            )
         }
         Contacting::Falling => {
-            let before = Expr::Name(edge_word(alloc, id)?);
+            let before = edge_value(alloc, id)?;
             let released = binary(alloc, Op::And, wired, turned(alloc, value)?)?;
             binary(alloc, Op::And, released, before)
         }

@@ -1,5 +1,5 @@
 //! The statements of networks.
-ghost use Rattle.std.specs.Prelude.{◌≡◌, map, IfOk, OnOk};
+ghost use Rattle.std.specs.Prelude.{◌≡◌, [], ◌∷◌, map, IfOk, OnOk};
 ghost use Rattle.plcx_types.specs.Lists.{Each};
 ghost use Rattle.plcx_meaning.specs.Templates.{elements_text, straight_text};
 ghost use Rattle.plcx_st.specs.Meant.{stmt_meant};
@@ -15,15 +15,24 @@ use sqlite_items::at;
 use std::alloc::Global;
 
 impl Body {
+    /// The element at a place, if there is one.
+    fn put_place(&mut self, drawing: &Drawing, place: u32) -> Result<(), NoMemory>
+        requires { Each StatementInRange (elements_text (shown_network drawing.now (place ∷ []))) }
+        ensures { OnOk result (Adds self.old self.new (elements_text (shown_network drawing.now (place ∷ [])))) }
+    {
+        match at(drawing.elements(), place as usize) {
+            Some(element) => self.put_element(element),
+            None => Ok(()),
+        }
+    }
+
     /// The elements at these places, one after another.
     fn put_network(&mut self, drawing: &Drawing, places: &[u32]) -> Result<(), NoMemory>
         requires { Each StatementInRange (elements_text (shown_network drawing.now places.now)) }
         ensures { OnOk result (Adds self.old self.new (elements_text (shown_network drawing.now places.now))) }
     {
         for place in places {
-            if let Some(element) = at(drawing.elements(), *place as usize) {
-                self.put_element(element)?;
-            }
+            self.put_place(drawing, *place)?;
         }
         Ok(())
     }
