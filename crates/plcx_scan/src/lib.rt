@@ -1,0 +1,17 @@
+//! Events, sides, and traces.
+//!
+//! A `Side` is a program between two events: that of a diagram or that of a text. Its meaning is a side of the
+//! definitions, and each call brings it to what the definitions give. `run` goes over events and gives a trace.
+#![tactic(auto)]
+
+mod event;
+mod open;
+mod row;
+mod running;
+mod side;
+
+pub use event::{Event, Input};
+pub use open::OpenError;
+pub use row::{Shown, Trace, TraceRow};
+// pub use running::run;
+pub use side::{Outcome, Side};
