@@ -13,5 +13,5 @@ mod side;
 pub use event::{Event, Input};
 pub use open::OpenError;
 pub use row::{Shown, Trace, TraceRow};
-// pub use running::run;
+pub use running::run;
 pub use side::{Outcome, Side};

@@ -1,5 +1,5 @@
 //! The rows of a trace: what is told of each event, and the values of the shown leaves after it.
-ghost use Rattle.std.specs.Prelude.{◌≡◌, ◌<◌, ◌^◌, IfOk, length};
+ghost use Rattle.std.specs.Prelude.{◌≡◌, ◌<◌, ◌^◌, ◌++◌, ◌∷◌, [], IfOk, OnOk, length};
 ghost use Rattle.plcx_scan.specs.Rows.{shown_numbers, picked};
 
 use crate::side::Outcome;
@@ -49,6 +49,16 @@ fn shown_numbers(alloc: Global, leaves: &[Leaf]) -> Result<Vec<u32>, NoMemory>
     Ok(numbers)
 }
 
+/// The value of this number at the end of the others, if there is one.
+fn push_value(shown: &mut Vec<Val>, values: &[Val], number: u32) -> Result<(), NoMemory>
+    ensures { OnOk result (shown.new.items ≡ shown.old.items ++ picked (number ∷ []) values.now) }
+{
+    if let Some(value) = values.get(number as usize) {
+        shown.push(*value)?;
+    }
+    Ok(())
+}
+
 impl Shown {
     /// The shown leaves of a layout.
     pub fn of(alloc: Global, layout: &Layout) -> Result<Shown, NoMemory>
@@ -58,15 +68,14 @@ impl Shown {
         Ok(Shown { numbers })
     }
 
-    fn values(&self, alloc: Global, values: &[Val]) -> Result<Items<Val>, NoMemory>
-        ensures { IfOk result (λ shown. shown ≡ picked self.now values.now) }
+    fn values(&self, alloc: Global, values: &[Val]) -> Result<Vec<Val>, NoMemory>
+        ensures { IfOk result (λ shown. shown.items ≡ picked self.now values.now) }
     {
-        let shown = self
-            .numbers
-            .iter()
-            .filter_map(|number| values.get(*number as usize).copied())
-            .collect(alloc)?;
-        Ok(Items::from_vec(shown))
+        let mut shown = Vec::new(alloc);
+        for number in &self.numbers {
+            push_value(&mut shown, values, *number)?;
+        }
+        Ok(shown)
     }
 
     /// A row with the values of the shown leaves, of the values of all leaves by number.
@@ -74,7 +83,7 @@ impl Shown {
         ensures outcome { IfOk result (λ row. row.outcome ≡ outcome) }
         ensures values { IfOk result (λ row. row.values ≡ picked self.now values.now) }
     {
-        let values = self.values(alloc, values)?;
+        let values = Items::from_vec(self.values(alloc, values)?);
         Ok(TraceRow { outcome, values })
     }
 }
