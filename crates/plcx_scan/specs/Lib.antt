@@ -1,3 +1,4 @@
 pub mod Events
 pub mod Sides
 pub mod Rows
+pub mod Texts

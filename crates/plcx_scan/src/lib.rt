@@ -9,9 +9,11 @@ mod open;
 mod row;
 mod running;
 mod side;
+mod tracing;
 
 pub use event::{Event, Input};
 pub use open::OpenError;
 pub use row::{Shown, Trace, TraceRow};
 pub use running::run;
 pub use side::{Outcome, Side};
+pub use tracing::trace_text;
