@@ -3,6 +3,8 @@ use Rattle.std.proofs.Common.{◌≡◌, ◌<◌, ◌+◌, ◌∙◌, ◌∷◌,
 use Rattle.std.specs.Prelude.{filter, OnErr}
 use Rattle.std.specs.declared.result.Result.{Result}
 use Rattle.std.specs.declared.result.Result.TheVariants.{Ok, Err}
+use Rattle.std.proofs.Math.Nat.{le_refl}
+use Rattle.std.proofs.Math.Seq.{take-length}
 use Rattle.std.proofs.lemmas.List.{map-append, length-map, take-map, take_more, drop_more}
 use Rattle.plcx_types.specs.Lists.{Each}
 use Rattle.plcx_types.specs.Value.{Value}
@@ -50,12 +52,11 @@ has_more m turns es e Old Now lines l all before here g stands =
 
 -- the line of the row that is made after an event
 pub row_line : {G : Type 0} (m k : Machine G) → k ≡ m → (turns : ℕ) (e : meant.Event) (Old New : meant.Side G → Type 0) (leaves there : List Leaf) → there ≡ leaves
-    → (values : List Value) (outcome : Outcome) → all_meant there ≡ k.layout → Pairwise HasTypeOf there values → Tells m turns e Old outcome → Brings m turns e Old New → Shows k there New values
+    → (values : List Value) (outcome : Outcome) → all_meant leaves ≡ m.layout → Pairwise HasTypeOf there values → Tells m turns e Old outcome → Brings m turns e Old New → Shows k there New values
     → (row : TraceRow) (numbers_are : List ℕ) → numbers_are ≡ shown_numbers leaves → row.outcome ≡ outcome → row.values ≡ picked numbers_are values → HasLine m turns e Old (meant_line row)
 row_line {G} m k same turns e Old New leaves there laid values outcome layout typed tells brings shows row ns ns_are outcome_is values_are g stands =
     ap₂ line (ap told outcome_is) (ap numbers (values_are ∙ ap (λ (x : List ℕ). picked x values) ns_are))
-    ∙ line_is m turns e Old New leaves values outcome
-    (ap all_meant (sym laid) ∙ layout ∙ ap (λ (x : Machine G). x.layout) same)
+    ∙ line_is m turns e Old New leaves values outcome layout
     (subst (λ (ls : List Leaf). Pairwise HasTypeOf ls values) laid typed)
     tells brings
     (λ h s. subst (λ (x : Machine G). Agrees leaves (x.value h.state) (numbers values)) same (subst (λ (ls : List Leaf). Agrees ls (k.value h.state) (numbers values)) laid (shows h s)))
@@ -111,3 +112,7 @@ follow_next leaves last events i event lt is h = subst (CanFollow leaves last) (
 -- the lines of rows that are equal
 pub pushed_lines : {G : Type 0} (m : Machine G) (turns : ℕ) (es : List meant.Event) (Old : meant.Side G → Type 0) (rows more : List TraceRow) → rows ≡ more → HasLines m turns es Old (meant_lines more) → HasLines m turns es Old (meant_lines rows)
 pushed_lines m turns es Old rows more same h g stands = ap meant_lines same ∙ h g stands
+
+-- all events are some of them
+pub all_brought : {G : Type 0} (m : Machine G) (turns : ℕ) (es : List meant.Event) (Old New : meant.Side G → Type 0) → BringsAll m turns es Old New → BringsSome m turns es Old New
+all_brought m turns es Old New all = (length es, le_refl (length es), subst (λ (ds : List meant.Event). BringsAll m turns ds Old New) (sym (take-length es)) all)

@@ -6,15 +6,17 @@ use Rattle.plcx_types.specs.Lists.{Each}
 use Rattle.plcx_types.specs.Value.{Value}
 use Rattle.plcx_meaning.specs.Base.{Path, is_declared}
 use Rattle.plcx_meaning.specs.Layout.{Leaf as Meant}
-use Rattle.plcx_meaning.specs.Traces.{Line}
+use Rattle.plcx_meaning.specs.Run as run
+use Rattle.plcx_meaning.specs.Run.{Machine}
+use Rattle.plcx_meaning.specs.Traces.{Line, trace_of, lines_from, side_at_end}
 use Rattle.plcx_state.specs.declared.layout.Leaf.{Leaf}
 use Rattle.plcx_state.specs.Layouts.{all_meant, meant, meant_path, dotted}
 use Rattle.plcx_state.specs.Lines.{retained_lines, line_if_kept, retained_line}
 use Rattle.plcx_state.specs.Retains.{Pairwise, each_with, numbers, Agrees}
 use Rattle.plcx_scan.specs.declared.row.TraceRow.{TraceRow}
-use Rattle.plcx_scan.specs.Sides.{told, HasTypeOf}
+use Rattle.plcx_scan.specs.Sides.{told, HasTypeOf, Shows, BringsAll, HasLines}
 use Rattle.plcx_scan.specs.Rows.{shown_leaves, meant_line, meant_lines, IsRowOf}
-use Rattle.plcx_scan.specs.Texts.{typed, spelled_path, event_text, kept_text, lines_text, all_kept_text, all_shown, all_retained, header, layout_header, rows_text, row_text}
+use Rattle.plcx_scan.specs.Texts.{typed, spelled_path, event_text, kept_text, lines_text, all_kept_text, all_shown, all_retained, header, layout_header, rows_text, row_text, trace_bytes, trace_text, HasTrace}
 
 -- the shown leaves in the words of the meaning
 shown_meant : (leaves : List Leaf) → all_shown (all_meant leaves) ≡ all_meant (shown_leaves leaves)
@@ -83,3 +85,28 @@ kept_pairs store (leaf ∷ leaves) (v ∷ vs) t h =
 pub retained_meant : (store : Path → ℤ) (leaves : List Leaf) (values : List Value) → Pairwise HasTypeOf leaves values → Agrees leaves store (numbers values)
     → retained_lines leaves values ≡ all_kept_text (all_retained (all_meant leaves)) (store_values store (all_retained (all_meant leaves)))
 retained_meant store leaves values t h = kept_pairs store leaves values t h.agrees
+
+-- the text of a run whose rows, leaves and values are those of the machine
+text_of : {G : Type 0} (m : Machine G) (turns : ℕ) (es : List run.Event) (Old New : run.Side G → Type 0) (leaves : List Leaf) (rows : List TraceRow) (values : List Value)
+    → all_meant leaves ≡ m.layout → HasLines m turns es Old (meant_lines rows) → Each (IsRowOf leaves) rows → BringsAll m turns es Old New → Pairwise HasTypeOf leaves values → Shows m leaves New values
+    → HasTrace m turns es Old (trace_text leaves rows (retained_lines leaves values))
+text_of m turns es Old New leaves rows values layout lines are_rows brings typed shows g stands =
+    let store = m.value (side_at_end m turns es g).state in
+    ap₂ (λ (x y : List ℕ). x ++ y) (header_meant leaves)
+    (ap₂ (λ (x y : List ℕ). x ++ y)
+    (rows_meant leaves 1 rows are_rows ∙ ap (lines_text (all_shown (all_meant leaves)) 1) (lines g stands))
+    (retained_meant store leaves values typed (shows (side_at_end m turns es g) (brings g stands))))
+    ∙ ap (λ (ms : List Meant). trace_bytes ms (trace_of (lines_from m turns es g) (store_values store (all_retained ms)))) layout
+
+-- and where machine and leaves are those that there were at first
+pub run_text : {G : Type 0} (m k : Machine G) → k ≡ m → (turns : ℕ) (es : List run.Event) (Old New : run.Side G → Type 0) (leaves there : List Leaf) → there ≡ leaves
+    → (rows : List TraceRow) (values : List Value) (retained text : List ℕ) → all_meant there ≡ k.layout → HasLines m turns es Old (meant_lines rows) → Each (IsRowOf leaves) rows
+    → BringsAll m turns es Old New → Pairwise HasTypeOf there values → Shows k there New values → retained ≡ retained_lines there values → text ≡ trace_text there rows retained → HasTrace m turns es Old text
+run_text {G} m k same turns es Old New leaves there laid rows values retained text layout lines are_rows brings typed shows retained_is text_is g stands =
+    text_is ∙ ap (trace_text there rows) retained_is ∙ ap (λ (ls : List Leaf). trace_text ls rows (retained_lines ls values)) laid
+    ∙ text_of m turns es Old New leaves rows values
+    (ap all_meant (sym laid) ∙ layout ∙ ap (λ (x : Machine G). x.layout) same)
+    lines are_rows brings
+    (subst (λ (ls : List Leaf). Pairwise HasTypeOf ls values) laid typed)
+    (subst (λ (x : Machine G). Shows x leaves New values) same (subst (λ (ls : List Leaf). Shows k ls New values) laid shows))
+    g stands

@@ -1,5 +1,5 @@
 -- Traces as texts: of any side of the meaning, and of rows.
-use Rattle.std.specs.Prelude.{◌+◌, ◌++◌, ℕ, ℤ, List, [], ◌∷◌, map, reverse, filter, codes}
+use Rattle.std.specs.Prelude.{◌≡◌, ◌+◌, ◌++◌, ℕ, ℤ, List, [], ◌∷◌, map, reverse, filter, codes}
 use Rattle.std.specs.Fmt.{decimal}
 use Rattle.std.specs.List.{flat_map}
 use Rattle.plcx_types.specs.declared.fault.Fault.{Fault}
@@ -10,8 +10,9 @@ use Rattle.plcx_types.specs.Value.{Value}
 use Rattle.plcx_meaning.specs.Base.{Stop, Faulted, OutOfTurns}
 use Rattle.plcx_meaning.specs.Layout.{declared_leaves}
 use Rattle.plcx_meaning.specs.Layout.{Leaf as Meant}
-use Rattle.plcx_meaning.specs.Run.{Told, TheEnd, Halted, Restarted, NoStep, TheStop}
-use Rattle.plcx_meaning.specs.Traces.{Line, Trace}
+use Rattle.plcx_meaning.specs.Run as meant
+use Rattle.plcx_meaning.specs.Run.{Machine, Told, TheEnd, Halted, Restarted, NoStep, TheStop}
+use Rattle.plcx_meaning.specs.Traces.{Line, Trace, trace_from}
 use Rattle.plcx_state.specs.declared.layout.Leaf.{Leaf}
 use Rattle.plcx_state.specs.Layouts.{dotted}
 use Rattle.plcx_state.specs.Retains.{each_with}
@@ -104,3 +105,7 @@ layout_header leaves = header (map (λ (leaf : Leaf). dotted leaf.path) (shown_l
 -- rows as a text, with retained lines behind them
 abbrev pub trace_text : List Leaf → List TraceRow → List ℕ → List ℕ
 trace_text leaves rows retained = layout_header leaves ++ (rows_text 1 rows ++ retained)
+
+-- the text is that of the trace of each of the sides
+abbrev pub HasTrace : {G : Type 0} → Machine G → ℕ → List meant.Event → (meant.Side G → Type 0) → List ℕ → Type 0
+HasTrace {G} m turns es Stands text = (g : meant.Side G) → Stands g → text ≡ trace_bytes m.layout (trace_from m turns es g)

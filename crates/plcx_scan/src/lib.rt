@@ -16,4 +16,4 @@ pub use open::OpenError;
 pub use row::{Shown, Trace, TraceRow};
 pub use running::run;
 pub use side::{Outcome, Side};
-pub use tracing::trace_text;
+pub use tracing::{run_to_text, trace_text};

@@ -1,6 +1,7 @@
 //! Runs: a side over a list of events.
 ghost use Rattle.std.specs.Prelude.{◌≡◌, IfOk, OnOk, OnErr};
 ghost use Rattle.plcx_types.specs.Lists.{Each};
+ghost use Rattle.plcx_state.specs.Layouts.{all_meant};
 ghost use Rattle.plcx_scan.specs.Events.{meant_event, meant_events, CanBeNext, CanFollow, last_after};
 ghost use Rattle.plcx_scan.specs.Sides.{Tells, Brings, BringsAll, BringsSome, HasLine, HasLines};
 ghost use Rattle.plcx_scan.specs.Rows.{shown_numbers, meant_line, meant_lines, IsRowOf};
@@ -44,6 +45,7 @@ fn row_after<S: Side>(
 ) -> Result<TraceRow, NoMemory>
     requires event { CanBeNext (S.laid side.old).leaves (S.last side.old) event.now }
     requires shown { shown.now ≡ shown_numbers (S.laid side.old).leaves }
+    requires layout { all_meant (S.laid side.old).leaves ≡ (S.machine side.old).layout }
     ensures line { IfOk result (λ row. HasLine (S.machine side.old) turns (meant_event (S.laid side.old).leaves event.now) (S.stands_for side.old) (meant_line row)) }
     ensures row { IfOk result (IsRowOf (S.laid side.old).leaves) }
     ensures meaning { Brings (S.machine side.old) turns (meant_event (S.laid side.old).leaves event.now) (S.stands_for side.old) (S.stands_for side.new) }
@@ -52,7 +54,6 @@ fn row_after<S: Side>(
     ensures time { S.last side.new ≡ last_after (S.last side.old) event.now }
 {
     let outcome = step(side, event, turns);
-    let _ = side.layout();
     Ok(shown.row(alloc, outcome, side.values())?)
 }
 

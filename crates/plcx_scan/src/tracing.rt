@@ -1,16 +1,19 @@
 //! Traces as texts.
-ghost use Rattle.std.specs.Prelude.{◌≡◌, ◌++◌, ◌∷◌, [], IfOk, OnOk, map};
+ghost use Rattle.std.specs.Prelude.{◌≡◌, ◌++◌, ◌∷◌, [], IfOk, OnOk, OnErr, map};
 ghost use Rattle.std.specs.Fmt.{decimal};
 ghost use Rattle.std.specs.List.{flat_map};
 ghost use Rattle.plcx_types.specs.Printed.{printed};
 ghost use Rattle.plcx_state.specs.declared.layout.Leaf.{Leaf};
 ghost use Rattle.plcx_state.specs.Layouts.{dotted};
-ghost use Rattle.plcx_scan.specs.Sides.{told};
+ghost use Rattle.plcx_scan.specs.Events.{meant_events, CanFollow};
+ghost use Rattle.plcx_scan.specs.Sides.{told, BringsAll, BringsSome};
 ghost use Rattle.plcx_scan.specs.Rows.{shown_leaves};
-ghost use Rattle.plcx_scan.specs.Texts.{word, behind_comma, values_text, row_text, rows_text, layout_header, trace_text};
+ghost use Rattle.plcx_scan.specs.Texts.{word, behind_comma, values_text, row_text, rows_text, layout_header, trace_text, HasTrace};
 
+use crate::event::Event;
 use crate::row::{Trace, TraceRow};
-use crate::side::Outcome;
+use crate::running::run;
+use crate::side::{Outcome, Side};
 use plcx_state::{Layout, Leaf};
 use plcx_types::{Fault, NoMemory, Val, print_literal};
 use std::alloc::Global;
@@ -109,4 +112,24 @@ pub fn trace_text(
     push_rows(alloc, &mut text, trace.rows.as_slice())?;
     text.extend_from_slice(retained)?;
     Ok(text)
+}
+
+/// A run as a text: the trace of each event in turn, and the retained lines at its end.
+pub fn run_to_text<S: Side>(
+    alloc: Global,
+    side: &mut S,
+    events: &[Event],
+    turns: u64,
+) -> Result<Vec<u8>, NoMemory>
+    requires { CanFollow (S.laid side.old).leaves (S.last side.old) events.now }
+    ensures text { IfOk result (λ text. HasTrace (S.machine side.old) turns (meant_events (S.laid side.old).leaves events.now) (S.stands_for side.old) text.items) }
+    ensures meaning { OnOk result (BringsAll (S.machine side.old) turns (meant_events (S.laid side.old).leaves events.now) (S.stands_for side.old) (S.stands_for side.new)) }
+    ensures stopped { OnErr result (BringsSome (S.machine side.old) turns (meant_events (S.laid side.old).leaves events.now) (S.stands_for side.old) (S.stands_for side.new)) }
+    ensures machine { S.machine side.new ≡ S.machine side.old }
+    ensures laid { S.laid side.new ≡ S.laid side.old }
+{
+    let trace = run(alloc, side, events, turns)?;
+    let _ = side.values();
+    let retained = side.retained_text(alloc)?;
+    Ok(trace_text(alloc, side.layout(), &trace, &retained)?)
 }
