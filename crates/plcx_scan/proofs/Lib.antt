@@ -1,3 +1,6 @@
 pub mod Picked
 pub mod Runs
 pub mod Told
+pub mod OneList
+pub mod Digits
+pub mod Fields

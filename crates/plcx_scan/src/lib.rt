@@ -4,8 +4,12 @@
 //! definitions, and each call brings it to what the definitions give. `run` goes over events and gives a trace.
 #![tactic(auto)]
 
+mod column;
 mod event;
+mod event_row;
 mod open;
+mod reading;
+mod record;
 mod row;
 mod running;
 mod side;
@@ -13,6 +17,7 @@ mod tracing;
 
 pub use event::{Event, Input};
 pub use open::OpenError;
+pub use reading::EventError;
 pub use row::{Shown, Trace, TraceRow};
 pub use running::run;
 pub use side::{Outcome, Side};
