@@ -4,3 +4,6 @@ pub mod Told
 pub mod OneList
 pub mod Digits
 pub mod Fields
+pub mod Headers
+pub mod EventRows
+pub mod EventFiles

@@ -1,5 +1,5 @@
 -- Serves proofs: what the reader of event files answers.
-use Rattle.std.specs.Prelude.{◌≡◌, ◌+◌, ℕ, pos, Bool, true, false, not, ◌&&◌, nat_eq, nat_lt, nat_le, List, [], ◌∷◌, ◌++◌, Option, Some, None, map, drop, length, codes, slice_get, slice_set, slice_index_or, if◌then◌else◌}
+use Rattle.std.specs.Prelude.{◌≡◌, ◌<◌, ◌+◌, ⊤, ℕ, take, pos, Bool, true, false, not, ◌&&◌, nat_eq, nat_lt, nat_le, List, [], ◌∷◌, ◌++◌, Option, Some, None, map, drop, length, codes, slice_get, slice_set, slice_index_or, if◌then◌else◌}
 use Rattle.std.specs.List.{list_all}
 use Rattle.std.specs.Option.{option_map, option_and_then}
 use Rattle.std.specs.Str.{bytes_eq}
@@ -10,7 +10,12 @@ use Rattle.plcx_types.specs.Numeral.{is_digit}
 use Rattle.plcx_types.specs.ReadLiteral.{value_of}
 use Rattle.plcx_types.specs.Value.{Value}
 use Rattle.plcx_state.specs.declared.layout.Leaf.{Leaf}
+use Rattle.plcx_meaning.specs.Layout.{Leaf as Meant}
+use Rattle.plcx_state.specs.Layouts.{meant}
+use Rattle.plcx_state.specs.Retains.{Pairwise}
 use Rattle.plcx_state.specs.Tables.{printed_at}
+use Rattle.plcx_scan.specs.declared.reading.EventError.{EventError}
+use Rattle.plcx_scan.specs.declared.reading.EventError.TheVariants.{Row, NoMemory}
 use Rattle.plcx_scan.specs.declared.column.Column.{Column}
 use Rattle.plcx_scan.specs.declared.event.Event.{Event}
 use Rattle.plcx_scan.specs.declared.event.Event.TheVariants.{Scan, Warm, Cold}
@@ -129,3 +134,27 @@ abbrev pub rows_events : List Column → ℕ → List Record → Option (List Ev
 rows_events columns last [] = Some []
 rows_events columns last (row ∷ rows) =
     option_and_then (λ (event : Event). option_map (λ (events : List Event). event ∷ events) (rows_events columns (last_after last event) rows)) (row_event columns last row)
+
+-- a column is that of a settable leaf, which the meaning knows
+pub record IsColumnOf (leaves : List Leaf) (column : Column) (leaf : Meant) : Type 0 where
+  pub own : Leaf
+  pub there : slice_get leaves column.leaf ≡ Some own
+  pub meant_is : leaf ≡ meant own
+  pub typed : column.ty ≡ own.ty
+  pub settable : own.settable ≡ true
+
+-- and so are columns, in order
+abbrev pub AreColumns : List Leaf → List Column → List Meant → Type 0
+AreColumns leaves columns cs = Pairwise (IsColumnOf leaves) columns cs
+
+-- the records before it are read as events, and with it they are not
+pub record IsUnread (columns : List Column) (rows : List Record) (place : ℕ) : Type 0 where
+  pub there : place < length rows
+  pub events : List Event
+  pub before : rows_events columns 0 (take place rows) ≡ Some events
+  pub unread : rows_events columns 0 (take (place + 1) rows) ≡ None
+
+-- why the records behind a header are not read: the first that can't be; the header has the number 1
+abbrev pub WhyNotRows : List Column → List Record → EventError → Type 0
+WhyNotRows columns rows (Row row) = (place : ℕ) × (row ≡ place + 2) × IsUnread columns rows place
+WhyNotRows columns rows NoMemory = ⊤
