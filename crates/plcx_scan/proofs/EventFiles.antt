@@ -11,9 +11,12 @@ use Rattle.plcx_scan.specs.declared.column.Column.{Column}
 use Rattle.plcx_scan.specs.declared.event.Event.{Event}
 use Rattle.plcx_scan.specs.Events.{meant_events, CanFollow}
 use Rattle.plcx_scan.specs.Files.{Record, IsHeader, AreEvents, RecordsStandFor, IsWrong, IsFirstWrong, nothing, wrong}
-use Rattle.plcx_scan.specs.ReadFiles.{columns_of, row_event, last_at_end, rows_events, AreColumns, IsUnread}
+use Rattle.plcx_scan.specs.ReadFiles.{columns_of, row_event, last_at_end, rows_events, CanTell, AreColumns, IsUnread, WhyNotRows}
+use Rattle.plcx_scan.specs.Errors.{WhyNotRecords}
+use Rattle.plcx_scan.specs.declared.reading.EventError.{EventError}
+use Rattle.plcx_scan.specs.declared.reading.EventError.TheVariants.{Row, NoMemory}
 use Rattle.plcx_scan.proofs.EventRows.{rows_sound, rows_complete, rows_push, last_push}
-use Rattle.plcx_scan.proofs.Headers.{CanTell, header_sound, header_complete}
+use Rattle.plcx_scan.proofs.Headers.{header_sound, header_complete}
 
 -- records that are read stand for what is read
 pub records_sound : (leaves : List Leaf) → CanTell leaves → (header : Record) (rows : List Record) (ds : List Column) (es : List Event) → columns_of leaves header ≡ Some ds → rows_events ds 0 rows ≡ Some es
@@ -80,3 +83,9 @@ read_none ds rows place row es last lt is before last_is read = record {
       ∙ rows_push ds 0 (take place rows) row es before
       ∙ ap (option_map (λ (x : Event). es ++ x ∷ [])) (ap (λ n. row_event ds n row) (sym last_is) ∙ sym read);
 }
+
+-- why the records behind a header are not read is why the file is wrong
+pub rows_wrong : (leaves : List Leaf) → CanTell leaves → (header : Record) (rows : List Record) (ds : List Column) → columns_of leaves header ≡ Some ds → (e : EventError) → WhyNotRows ds rows e
+    → WhyNotRecords (all_meant leaves) (header ∷ rows) e
+rows_wrong leaves tells header rows ds columns (Row row) h = subst (IsFirstWrong (all_meant leaves) (header ∷ rows)) (sym h.1) (row_wrong leaves tells header rows ds columns h.0 h.2)
+rows_wrong leaves tells header rows ds columns NoMemory h = h

@@ -79,7 +79,7 @@ input_sound leaves d c of byte bytes is e =
         stands = subst (λ t. StandsForValue t (byte ∷ bytes) v) typed stands;
         number_is = refl;
       },
-      record { leaf = of.own; there = of.there; settable = of.settable; typed = ?; range = ? },
+      record { leaf = of.own; there = of.there; settable = of.settable; typed = ranged.0 ∙ of.typed; range = subst (λ t. InRange t v.n) (ranged.0 ∙ of.typed) ranged.1 },
     )
 
 -- the fields of a scan

@@ -25,12 +25,7 @@ use Rattle.plcx_state.proofs.Meaning.{set_elsewhere}
 use Rattle.plcx_state.proofs.Places.{printed_found, printed_is, one_place}
 use Rattle.plcx_scan.specs.declared.column.Column.{Column}
 use Rattle.plcx_scan.specs.Files.{Record, IsColumn, IsHeader}
-use Rattle.plcx_scan.specs.ReadFiles.{field, has_word, column_of, column_at, column_named, is_taken, untaken, columns_from, none_taken, columns_of, IsColumnOf, AreColumns}
-
--- what a table of settable leaves rests on
-pub record CanTell (leaves : List Leaf) : Type 0 where
-  pub told : IsTold leaves
-  pub outside : Each LiesOutside leaves
+use Rattle.plcx_scan.specs.ReadFiles.{field, has_word, column_of, column_at, column_named, is_taken, untaken, columns_from, none_taken, columns_of, CanTell, IsColumnOf, AreColumns}
 
 -- a path of one name
 single : (names : List (List ℕ)) → length names ≡ 1 → (x : List ℕ) × (names ≡ x ∷ [])

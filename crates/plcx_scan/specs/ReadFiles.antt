@@ -5,15 +5,16 @@ use Rattle.std.specs.Option.{option_map, option_and_then}
 use Rattle.std.specs.Str.{bytes_eq}
 use Rattle.plcx_types.specs.Duration.{number}
 use Rattle.plcx_types.specs.Limits.{max_event_time}
+use Rattle.plcx_types.specs.Lists.{Each}
 use Rattle.plcx_types.specs.Name.{in_lower_case}
 use Rattle.plcx_types.specs.Numeral.{is_digit}
 use Rattle.plcx_types.specs.ReadLiteral.{value_of}
 use Rattle.plcx_types.specs.Value.{Value}
 use Rattle.plcx_state.specs.declared.layout.Leaf.{Leaf}
 use Rattle.plcx_meaning.specs.Layout.{Leaf as Meant}
-use Rattle.plcx_state.specs.Layouts.{meant}
+use Rattle.plcx_state.specs.Layouts.{meant, LiesOutside}
 use Rattle.plcx_state.specs.Retains.{Pairwise}
-use Rattle.plcx_state.specs.Tables.{printed_at}
+use Rattle.plcx_state.specs.Tables.{printed_at, IsTold}
 use Rattle.plcx_scan.specs.declared.reading.EventError.{EventError}
 use Rattle.plcx_scan.specs.declared.reading.EventError.TheVariants.{Row, NoMemory}
 use Rattle.plcx_scan.specs.declared.column.Column.{Column}
@@ -134,6 +135,11 @@ abbrev pub rows_events : List Column → ℕ → List Record → Option (List Ev
 rows_events columns last [] = Some []
 rows_events columns last (row ∷ rows) =
     option_and_then (λ (event : Event). option_map (λ (events : List Event). event ∷ events) (rows_events columns (last_after last event) rows)) (row_event columns last row)
+
+-- what the columns of leaves rest on: their paths tell them apart, and what is settable is the program's own
+pub record CanTell (leaves : List Leaf) : Type 0 where
+  pub told : IsTold leaves
+  pub outside : Each LiesOutside leaves
 
 -- a column is that of a settable leaf, which the meaning knows
 pub record IsColumnOf (leaves : List Leaf) (column : Column) (leaf : Meant) : Type 0 where

@@ -17,7 +17,7 @@ mod tracing;
 
 pub use event::{Event, Input};
 pub use open::OpenError;
-pub use reading::EventError;
+pub use reading::{EventError, read_events};
 pub use row::{Shown, Trace, TraceRow};
 pub use running::run;
 pub use side::{Outcome, Side};
