@@ -58,7 +58,7 @@ column_of_is k leaf d e = by leaf.settable refl e
     by true is h = let same = same_Some (record { leaf = k; ty = leaf.ty }) d h in (is, ap (λ (c : Column). c.leaf) (sym same), ap (λ (c : Column). c.ty) (sym same))
     by false is h = absurd (cc)
 
-contains_at : {A : Type 0} (xs : List A) (k : ℕ) (x : A) → slice_get xs k ≡ Some x → Contains xs x
+pub contains_at : {A : Type 0} (xs : List A) (k : ℕ) (x : A) → slice_get xs k ≡ Some x → Contains xs x
 contains_at xs k x e = (k, slice_get_within xs k x e, get_or_from_slice_get xs k x x e)
 
 at_contains : {A : Type 0} (xs : List A) (x : A) → Contains xs x → (k : ℕ) × (slice_get xs k ≡ Some x)

@@ -7,3 +7,5 @@ pub mod Fields
 pub mod Headers
 pub mod EventRows
 pub mod EventFiles
+pub mod OneEvents
+pub mod MeantEvents

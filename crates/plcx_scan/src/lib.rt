@@ -7,6 +7,7 @@
 mod column;
 mod event;
 mod event_row;
+mod law;
 mod open;
 mod reading;
 mod record;
@@ -16,6 +17,7 @@ mod side;
 mod tracing;
 
 pub use event::{Event, Input};
+pub use law::{events_are_meant, one_list_of_events, one_wrong_record};
 pub use open::OpenError;
 pub use reading::{EventError, read_events};
 pub use row::{Shown, Trace, TraceRow};
