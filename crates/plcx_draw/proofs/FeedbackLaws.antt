@@ -1,0 +1,62 @@
+-- Which outputs feed back, one reader after another.
+use Rattle.std.proofs.Common.{◌≡◌, ℕ, ◌+◌, ◌<◌, ◌||◌, Bool, true, false, List, [], ◌∷◌, ◌++◌, map, take, get_or, length, cond, refl, sym, ap, ◌∙◌}
+use Rattle.std.specs.List.{list_any}
+use Rattle.std.proofs.lemmas.List.{take_more, map-append}
+use Rattle.std.proofs.lemmas.List.Folds.{list_any-append}
+use Rattle.std.proofs.Math.Bool.{or_assoc}
+use Rattle.plcx_meaning.specs.Diagram as diagram
+use Rattle.plcx_meaning.specs.Diagram.{link_reads_back}
+use Rattle.plcx_drawn.specs.declared.element.InputPin.{InputPin}
+use Rattle.plcx_drawn.specs.Shown.{shown_input_pin}
+use Rattle.plcx_draw.specs.declared.feedback.Feedback.{Feedback}
+use Rattle.plcx_draw.specs.Feedback.{Adds, has, link_of_input}
+
+or_false : (b : Bool) → (b || false) ≡ b
+or_false true = refl
+or_false false = refl
+
+-- one more of a list that is shown
+any_more : {X Y : Type 0} (shown : X → Y) (test : Y → Bool) (xs : List X) (i : ℕ) (x d : X) → i < length xs → x ≡ get_or xs i d
+    → list_any test (map shown (take (i + 1) xs)) ≡ (list_any test (map shown (take i xs)) || test (shown x))
+any_more shown test xs i x d within is =
+    ap (λ ys. list_any test (map shown ys)) (take_more xs i d within)
+    ∙ ap (λ y. list_any test (map shown (take i xs ++ y ∷ []))) (sym is)
+    ∙ ap (list_any test) (map-append shown (take i xs) (x ∷ []))
+    ∙ list_any-append test (map shown (take i xs)) (shown x ∷ [])
+    ∙ ap (λ b. list_any test (map shown (take i xs)) || b) (or_false (test (shown x)))
+
+-- one more of some readers
+pub adds_more : {X Y : Type 0} (shown : X → Y) (f : ℕ → List ℕ → Y → Bool) (xs : List X) (i : ℕ) (x d : X) (start before after : Feedback) → i < length xs → x ≡ get_or xs i d
+    → Adds start before (λ id pin. list_any (f id pin) (map shown (take i xs)))
+    → Adds before after (λ id pin. f id pin (shown x))
+    → Adds start after (λ id pin. list_any (f id pin) (map shown (take (i + 1) xs)))
+adds_more shown f xs i x d start before after within is old new id pin =
+    new id pin
+    ∙ ap (λ b. b || f id pin (shown x)) (old id pin)
+    ∙ or_assoc (has start id pin) (list_any (f id pin) (map shown (take i xs))) (f id pin (shown x))
+    ∙ ap (λ b. has start id pin || b) (sym (any_more shown (f id pin) xs i x d within is))
+
+-- what is there is there, or else was there before
+pub put_or : (a b : Bool) → cond a true b ≡ (b || a)
+put_or true true = refl
+put_or true false = refl
+put_or false true = refl
+put_or false false = refl
+
+-- the links of the inputs of an instance
+links_of_inputs : (inputs : List InputPin) → map (λ (i : diagram.InputPin). i.link) (map shown_input_pin inputs) ≡ map link_of_input inputs
+links_of_inputs [] = refl
+links_of_inputs (i ∷ inputs) = ap (λ links. link_of_input i ∷ links) (links_of_inputs inputs)
+
+-- what EN reads, and then what the inputs of an instance read
+pub adds_call : (before middle after : Feedback) (en : List diagram.Link) (inputs : List InputPin)
+    → Adds before middle (λ id pin. list_any (link_reads_back id pin) en)
+    → Adds middle after (λ id pin. list_any (link_reads_back id pin) (map link_of_input inputs))
+    → Adds before after (λ id pin. list_any (link_reads_back id pin) (en ++ map (λ (i : diagram.InputPin). i.link) (map shown_input_pin inputs)))
+adds_call before middle after en inputs first then id pin =
+    let test = link_reads_back id pin in
+    then id pin
+    ∙ ap (λ b. b || list_any test (map link_of_input inputs)) (first id pin)
+    ∙ or_assoc (has before id pin) (list_any test en) (list_any test (map link_of_input inputs))
+    ∙ ap (λ b. has before id pin || b) (sym (list_any-append test en (map link_of_input inputs)))
+    ∙ ap (λ links. has before id pin || list_any test (en ++ links)) (sym (links_of_inputs inputs))
