@@ -27,6 +27,7 @@ pub enum Side {
     Outputs,
 }
 
+/// Whether a pin is an EN without a connection, which counts as absent.
 pub fn is_absent(pin: &PinIn) -> bool
     ensures { result ≡ is_absent pin.now }
 {
@@ -196,8 +197,7 @@ fn is_listed(in_outs: &[PinIn], name: &[u8]) -> bool
 fn any_missing(in_outs: &[PinIn], own: &[OwnPin]) -> bool
     ensures { result ≡ list_any (λ (p : OwnPin). not (list_any (λ (q : PinIn). same_name (shown_pin p).name q.formal) in_outs.now)) own.now }
 {
-    own.iter()
-        .any(|pin| !is_listed(in_outs, pin.variable.name.text()))
+    own.iter().any(|pin| !is_listed(in_outs, pin.name))
 }
 
 ghost use Rattle.plcx_names.specs.declared.pins.OwnPin.{OwnPin};
