@@ -17,7 +17,9 @@ mod variables;
 
 pub use formals::{Formal, function_input_name};
 pub use helds::{Held, Holding, NOTHING, Named, text_held, text_holding, text_named};
-pub use listed::{is_connected, is_enable, is_eno, is_function, output_name, result_count};
+pub use listed::{
+    input_count, is_connected, is_enable, is_eno, is_function, output_name, result_count,
+};
 pub use owner::Owner;
 pub use pins::{OwnPin, standard_pin};
 pub use places::Places;

@@ -1,7 +1,7 @@
 //! The pins that a block lists.
 ghost use Rattle.std.specs.Prelude.{◌≡◌, List};
 ghost use Rattle.plcx_model.specs.declared.body.PinOut.{PinOut};
-ghost use Rattle.plcx_rules.specs.Callees.{is_function, is_enable, is_connected, is_eno, result_count, output_name};
+ghost use Rattle.plcx_rules.specs.Callees.{is_function, is_enable, is_connected, input_count, is_eno, result_count, output_name};
 
 use crate::texts::same_name;
 use plcx_model::{PinIn, PinOut};
@@ -26,6 +26,13 @@ pub fn is_connected(pin: &PinIn) -> bool
     ensures { result ≡ is_connected pin.now }
 {
     !pin.input.as_slice().is_empty()
+}
+
+/// How many inputs stand beside EN.
+pub fn input_count(inputs: &[PinIn]) -> usize
+    ensures { result ≡ input_count inputs.now }
+{
+    inputs.iter().filter(|pin| !is_enable(pin)).count()
 }
 
 /// Whether an output is ENO.
