@@ -1,2 +1,3 @@
 pub mod PinLaws
 pub mod FeedbackLaws
+pub mod SheetLaws

@@ -1,2 +1,4 @@
 pub mod Pins
 pub mod Feedback
+pub mod Known
+pub mod Sheets

@@ -4,4 +4,7 @@
 #![tactic(auto)]
 
 mod feedback;
+mod kinds;
+mod known;
 mod pins;
+mod sheet;
