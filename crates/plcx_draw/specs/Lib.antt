@@ -2,3 +2,4 @@ pub mod Pins
 pub mod Feedback
 pub mod Known
 pub mod Sheets
+pub mod Wired

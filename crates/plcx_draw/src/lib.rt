@@ -8,3 +8,4 @@ mod kinds;
 mod known;
 mod pins;
 mod sheet;
+mod wired;
