@@ -1,3 +1,4 @@
 pub mod PinLaws
 pub mod FeedbackLaws
 pub mod SheetLaws
+pub mod BlockLaws

@@ -1,9 +1,9 @@
 -- Which outputs feed back, as the code finds them.
-use Rattle.std.specs.Prelude.{◌≡◌, ℕ, ◌&&◌, ◌||◌, Bool, List, [], nat_eq}
+use Rattle.std.specs.Prelude.{◌≡◌, ℕ, ◌&&◌, ◌||◌, Bool, List, [], filter, nat_eq}
 use Rattle.std.specs.Borrow.{Bor}
 use Rattle.std.specs.List.{list_any}
 use Rattle.std.specs.Str.{bytes_eq}
-use Rattle.plcx_meaning.specs.Diagram.{Link, ElementKind, DiagramElement, links_of, link_reads_back}
+use Rattle.plcx_meaning.specs.Diagram.{Link, ElementKind, Port, DiagramElement, ports, links_of, link_reads_back}
 use Rattle.plcx_drawn.specs.declared.element.InputPin.{InputPin}
 use Rattle.plcx_drawn.specs.Shown.{shown_link, shown_kind}
 use Rattle.plcx_draw.specs.declared.feedback.Bare.{Bare}
@@ -28,3 +28,7 @@ has f id pin = list_any (λ (o : ℕ × Bor (List ℕ)). nat_eq id o.0 && bytes_
 -- beside what was found before, just the outputs that are read back
 abbrev pub Adds : Feedback → Feedback → (ℕ → List ℕ → Bool) → Type 0
 Adds before after reads = (id : ℕ) (pin : List ℕ) → has after id pin ≡ (has before id pin || reads id pin)
+
+-- an element with those of its outputs that were found
+abbrev pub with_found : Feedback → DiagramElement → DiagramElement
+with_found f e = record e { fed = filter (λ (o : Port). has f e.id o.pin) (ports e.kind) }

@@ -3,3 +3,4 @@ pub mod Feedback
 pub mod Known
 pub mod Sheets
 pub mod Wired
+pub mod Listed

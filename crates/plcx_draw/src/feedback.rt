@@ -7,8 +7,11 @@ ghost use Rattle.plcx_drawn.specs.Shown.{shown_source, shown_link, shown_enable,
 ghost use Rattle.plcx_draw.specs.Feedback.{has, Adds, shown_bare, link_of_input, kind_reads_back};
 
 use indexmap::IndexSet;
-use plcx_drawn::{ElementKind, Enable, InputPin, Link, Output, Source};
+use plcx_drawn::{
+    Element, ElementKind, Enable, InputPin, Link, Output, Port, Source, ports,
+};
 use plcx_types::NoMemory;
+use sqlite_items::Items;
 use std::alloc::Global;
 
 /// An element before it is known which of its outputs feed back.
@@ -147,3 +150,51 @@ impl<'a> Feedback<'a> {
 
 ghost use Rattle.std.specs.Prelude.{Bool, false, IsTrue};
 ghost use Rattle.plcx_meaning.specs.Diagram.{DiagramElement};
+
+/// The outputs of an element that feed back, in their order.
+fn fed_of<'a>(
+    alloc: Global,
+    feedback: &Feedback<'a>,
+    element: &Bare<'a>,
+) -> Result<Vec<Port<'a>>, NoMemory>
+    ensures { IfOk result (λ fed. map shown_port fed.items ≡ filter (λ (o : diagram.Port). has feedback.now element.now.id o.pin) (ports (shown_kind element.now.kind))) }
+{
+    let mut fed = Vec::new(alloc);
+    if feedback.is_empty() {
+        return Ok(fed);
+    }
+    let ports = ports(alloc, &element.kind)?;
+    for port in &ports {
+        if feedback.has(element.id, port.pin) {
+            fed.push(*port)?;
+        }
+    }
+    Ok(fed)
+}
+
+/// The elements, with those of their outputs that feed back.
+pub(crate) fn with_fed<'a>(
+    alloc: Global,
+    feedback: &Feedback<'a>,
+    elements: Vec<Bare<'a>>,
+) -> Result<Vec<Element<'a>>, NoMemory>
+    ensures { IfOk result (λ all. map shown_element all.items ≡ map (with_found feedback.now) (map shown_bare elements.entry.items)) }
+{
+    let mut all = Vec::new(alloc);
+    for element in elements {
+        let fed = fed_of(alloc, feedback, &element)?;
+        let Bare { id, kind } = element;
+        all.push(Element {
+            id,
+            kind,
+            fed: Items::from_vec(fed),
+        })?;
+    }
+    Ok(all)
+}
+
+ghost use Rattle.std.specs.Prelude.{filter};
+ghost use Rattle.plcx_meaning.specs.Diagram as diagram;
+ghost use Rattle.plcx_meaning.specs.Diagram.{ports};
+ghost use Rattle.plcx_drawn.specs.Shown.{shown_port, shown_element};
+ghost use Rattle.plcx_draw.specs.Feedback.{with_found};

@@ -7,6 +7,7 @@ ghost use Rattle.plcx_view.specs.Kinds.{storing_of, coiling_of, contacting_of, k
 ghost use Rattle.plcx_draw.specs.Pins.{shown_pins};
 ghost use Rattle.plcx_draw.specs.Sheets.{IsKnown};
 
+use crate::blocks::{Listed, text_of};
 use crate::known::Known;
 use crate::pins::Pins;
 use crate::sheet::Sheet;
@@ -98,5 +99,59 @@ fn reading_by<'a>(negated: bool, named: &Option<Named<'a>>) -> ElementKind<'a>
             },
         },
         _ => ElementKind::Still,
+    }
+}
+
+impl<'s, 'a> Sheet<'s, 'a> {
+    /// What an element is whose input pins come first among these.
+    pub(crate) fn kind_of(
+        &self,
+        alloc: Global,
+        known: &Known<'a>,
+        pins: Pins<'a>,
+    ) -> Result<ElementKind<'a>, NoMemory>
+        requires { IsKnown self.now known.now }
+        ensures { IfOk result (λ kind. shown_kind kind ≡ kind_of self.now.pous self.now.pou (shown_pins pins.entry) known.now.element.now.kind) }
+    {
+        match &known.element.kind {
+            Kind::Skipped | Kind::LeftRail | Kind::RightRail { .. } => Ok(ElementKind::Still),
+            Kind::Contact { mods, .. } => Ok(ElementKind::Contact {
+                how: contacting_of(*mods),
+                operand: operand_by(&known.named),
+                link: self.link_at(alloc, pins)?,
+            }),
+            Kind::Coil { mods, .. } => Ok(ElementKind::Coil {
+                how: coiling_of(*mods),
+                variable: target_by(&known.named),
+                link: self.link_at(alloc, pins)?,
+            }),
+            Kind::In { mods, .. } => Ok(reading_by(mods.negated, &known.named)),
+            Kind::Out { mods, .. } => Ok(ElementKind::Out {
+                how: storing_of(*mods),
+                variable: target_by(&known.named),
+                link: self.link_at(alloc, pins)?,
+            }),
+            Kind::Block {
+                instance,
+                inputs,
+                in_outs,
+                outputs,
+                ..
+            } => {
+                let instance = text_of(instance);
+                let (inputs, in_outs) = (inputs.as_slice(), in_outs.as_slice());
+                let listed = Listed::of(alloc, instance, inputs, in_outs, outputs.as_slice(), pins)?;
+                self.block(alloc, known.callee, known.outputs.as_slice(), &listed)
+            }
+            Kind::Connector { .. } | Kind::Continuation { .. } => {
+                Ok(ElementKind::Pass(self.link_at(alloc, pins)?))
+            }
+            Kind::Label { name } => Ok(ElementKind::Label(name.as_slice())),
+            Kind::Jump { label, .. } => Ok(ElementKind::Jump {
+                label: label.as_slice(),
+                link: self.link_at(alloc, pins)?,
+            }),
+            Kind::Return { .. } => Ok(ElementKind::Return(self.link_at(alloc, pins)?)),
+        }
     }
 }

@@ -3,6 +3,9 @@
 //! A drawing shows just the POU that `diagrams_of` of plcx_view has at its place.
 #![tactic(auto)]
 
+mod blocks;
+mod calls;
+mod drawing;
 mod feedback;
 mod kinds;
 mod known;

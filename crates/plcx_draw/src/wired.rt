@@ -5,7 +5,7 @@ ghost use Rattle.plcx_drawn.specs.Shown.{shown_link, shown_enable};
 ghost use Rattle.plcx_rules.specs.Texts.{same_name};
 ghost use Rattle.plcx_rules.specs.Callees.{is_eno, is_enable};
 ghost use Rattle.plcx_view.specs.Blocks as view;
-ghost use Rattle.plcx_view.specs.Blocks.{wired_link, enables, enable_of, is_negated, beside};
+ghost use Rattle.plcx_view.specs.Blocks.{wired_link, among, is_taken, enables, enable_of, is_negated, beside};
 ghost use Rattle.plcx_draw.specs.Pins.{shown_pins};
 ghost use Rattle.plcx_draw.specs.Wired.{shown_wired};
 
@@ -78,6 +78,28 @@ pub(crate) fn beside_enable<'a>(
     let mut all = Vec::new(alloc);
     for wired in inputs {
         if !is_enable(wired.input) {
+            all.push(*wired)?;
+        }
+    }
+    Ok(all)
+}
+
+fn is_taken(input: &PinIn) -> bool
+    ensures { result ≡ is_taken input.now }
+{
+    !is_enable(input) && is_connected(input)
+}
+
+/// The connected inputs beside EN.
+pub(crate) fn taken<'a>(
+    alloc: Global,
+    inputs: &[Wired<'a>],
+) -> Result<Vec<Wired<'a>>, NoMemory>
+    ensures { IfOk result (λ all. map shown_wired all.items ≡ among is_taken (map shown_wired inputs.now)) }
+{
+    let mut all = Vec::new(alloc);
+    for wired in inputs {
+        if is_taken(wired.input) {
             all.push(*wired)?;
         }
     }
