@@ -2,3 +2,5 @@ pub mod PinLaws
 pub mod FeedbackLaws
 pub mod SheetLaws
 pub mod BlockLaws
+pub mod ElementLaws
+pub mod PouLaws

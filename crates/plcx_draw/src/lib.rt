@@ -4,11 +4,14 @@
 #![tactic(auto)]
 
 mod blocks;
+mod bodies;
 mod calls;
-mod drawing;
+mod elements;
 mod feedback;
 mod kinds;
 mod known;
 mod pins;
 mod sheet;
 mod wired;
+
+pub use bodies::drawing;

@@ -7,4 +7,4 @@ use Rattle.plcx_draw.proofs.feedback.fed_of.Given as goal
 abbrev pub invariant-loop-port : goal.invariant-loop-port
 invariant-loop-port l =
     let test = λ (o : diagram.Port). has l.feedback l.element.id o.pin in
-    map shown_port l.fed.items ++ filter test (map shown_port (drop l.port-index l.ports.items)) ≡ filter test (map shown_port l.ports.items)
+    map shown_port l.fed.items ++ filter test (map shown_port (drop l.port-index l.port-items)) ≡ filter test (map shown_port l.port-items)

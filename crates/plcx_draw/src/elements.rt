@@ -1,12 +1,9 @@
-//! The drawing of a POU.
-ghost use Rattle.std.specs.Prelude.{◌≡◌, ◌<◌, Some, map, drop, length, slice_get, IfOk};
-ghost use Rattle.plcx_meaning.specs.Diagram.{DiagramElement};
+//! The elements of a POU.
+ghost use Rattle.std.specs.Prelude.{◌≡◌, map, take, drop, IfOk};
 ghost use Rattle.plcx_drawn.specs.Shown.{shown_element};
-ghost use Rattle.plcx_drawn.specs.Pous.{shown_pou};
 ghost use Rattle.plcx_model.specs.Numbering.{pins_of};
-ghost use Rattle.plcx_view.specs.Diagrams.{elements_from, elements_of, pou_of, diagrams_of};
+ghost use Rattle.plcx_view.specs.Diagrams.{element_of, elements_from, elements_of};
 ghost use Rattle.plcx_draw.specs.Feedback.{shown_bare};
-ghost use Rattle.plcx_draw.specs.Known.{shown_known};
 ghost use Rattle.plcx_draw.specs.Pins.{shown_pins};
 ghost use Rattle.plcx_draw.specs.Sheets.{IsKnown};
 
@@ -14,11 +11,10 @@ use crate::feedback::{Bare, Feedback, with_fed};
 use crate::known::Known;
 use crate::pins::Pins;
 use crate::sheet::Sheet;
-use plcx_drawn::{Drawing, Element};
-use plcx_model::{BodyPlan, Kind, Links, Plan, Source, Types};
+use plcx_drawn::Element;
+use plcx_model::Kind;
 use plcx_names::{Owner, Scope};
-use plcx_types::{NoMemory, Ty};
-use sqlite_items::Items;
+use plcx_types::NoMemory;
 use std::alloc::Global;
 
 /// The pins behind those of an element of this kind.
@@ -71,5 +67,17 @@ impl<'s, 'a> Sheet<'s, 'a> {
     }
 }
 
-ghost use Rattle.std.specs.Prelude.{take};
-ghost use Rattle.plcx_view.specs.Diagrams.{element_of};
+/// The elements of a POU, with those of their outputs that feed back.
+pub(crate) fn elements_of<'a>(
+    alloc: Global,
+    scope: &Scope<'a>,
+    owner: &Owner<'a>,
+    pins: Pins<'a>,
+) -> Result<Vec<Element<'a>>, NoMemory>
+    ensures { IfOk result (λ all. map shown_element all.items ≡ elements_of scope.now owner.now (shown_pins pins.entry)) }
+{
+    let sheet = Sheet::of(alloc, scope, owner)?;
+    let bare = sheet.elements_of(alloc, pins)?;
+    let feedback = Feedback::of(alloc, &bare)?;
+    Ok(with_fed(alloc, &feedback, bare)?)
+}
