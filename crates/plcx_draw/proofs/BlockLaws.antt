@@ -1,5 +1,5 @@
 -- The pins of blocks, one after another.
-use Rattle.std.proofs.Common.{◌≡◌, ℕ, zero, suc, ◌+◌, ◌<◌, Bool, true, false, cond, not, List, [], ◌∷◌, ◌++◌, Option, Some, None, map, filter, take, drop, get_or, length, refl, sym, ap, ◌∙◌, arith}
+use Rattle.std.proofs.Common.{◌≡◌, ℕ, zero, suc, ◌+◌, ◌<◌, Bool, true, false, cond, not, List, [], ◌∷◌, ◌++◌, Option, map, take, drop, get_or, length, refl, sym, ap, ◌∙◌, arith}
 use Rattle.std.specs.List.{filter_map, cons_option, range_with_len}
 use Rattle.std.proofs.lemmas.List.{take_more, drop_more, map-append, append_assoc, get_or-map}
 use Rattle.std.proofs.lemmas.List.Elements.{filter_map-append, filter-append}
@@ -62,15 +62,15 @@ output_more shown pous c fs os i f d o before after whole in_fs in_os f_is o_is 
     let make = output_pin pous c os in
     let then = drop (i + 1) os in
     let same : shown f ≡ output_formal pous c os o =
-        ap shown f_is
-        ∙ sym (get_or-map shown fs i d (shown f) in_fs)
-        ∙ ap (λ xs. get_or xs i (shown f)) found
-        ∙ get_or-map (output_formal pous c os) os i o (shown f) in_os
-        ∙ ap (output_formal pous c os) (sym o_is) in
+    ap shown f_is
+    ∙ sym (get_or-map shown fs i d (shown f) in_fs)
+    ∙ ap (λ xs. get_or xs i (shown f)) found
+    ∙ get_or-map (output_formal pous c os) os i o (shown f) in_os
+    ∙ ap (output_formal pous c os) (sym o_is) in
     let split : beside (drop i os) ≡ beside (o ∷ []) ++ beside then =
-        ap beside (drop_more os i o in_os)
-        ∙ ap (λ x. beside (x ∷ then)) (sym o_is)
-        ∙ filter-append (λ (x : PinOut). not (is_eno x)) (o ∷ []) then in
+    ap beside (drop_more os i o in_os)
+    ∙ ap (λ x. beside (x ∷ then)) (sym o_is)
+    ∙ filter-append (λ (x : PinOut). not (is_eno x)) (o ∷ []) then in
     ap (λ xs. xs ++ map make (beside then)) (put ∙ ap (λ xs. before ++ xs) (by_eno (is_eno o) (shown f) pous c os o same))
     ∙ append_assoc before (map make (beside (o ∷ []))) (map make (beside then))
     ∙ ap (λ xs. before ++ xs) (sym (map-append make (beside (o ∷ [])) (beside then)))

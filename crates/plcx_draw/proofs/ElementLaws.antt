@@ -1,5 +1,5 @@
 -- The elements of a body, one after another, each with its own pins.
-use Rattle.std.proofs.Common.{◌≡◌, ℕ, zero, suc, ◌+◌, ◌<◌, ◌≤◌, List, [], ◌∷◌, ◌++◌, Option, map, take, drop, get_or, length, refl, sym, ap, ◌∙◌, arith}
+use Rattle.std.proofs.Common.{◌≡◌, ℕ, zero, suc, ◌+◌, ◌<◌, ◌≤◌, List, [], ◌∷◌, ◌++◌, take, drop, get_or, length, refl, sym, ap, ◌∙◌, arith}
 use Rattle.std.specs.List.{zip}
 use Rattle.std.proofs.lemmas.List.{drop_more, drop-take, append_assoc, get_or-map, length-map}
 use Rattle.plcx_meaning.specs.Diagram.{DiagramElement, Contact, Coil, Out, Pass, Jump, Return}
@@ -17,7 +17,7 @@ use Rattle.plcx_view.specs.Kinds.{storing_of, coiling_of, contacting_of, kind_of
 use Rattle.plcx_view.specs.Diagrams.{element_of, elements_from}
 use Rattle.plcx_draw.specs.declared.known.Known.{Known}
 use Rattle.plcx_draw.specs.Known.{Looked, shown_known, looked_up}
-use Rattle.plcx_draw.specs.Sheets.{Placed, AreKnown, IsKnown}
+use Rattle.plcx_draw.specs.Sheets.{AreKnown}
 
 -- ---- an element needs its own pins alone
 
@@ -70,10 +70,10 @@ stands_there pous p known i k are within is =
     let e = get_or es i k.element.now in
     let long : i < length es = omega (arith, as_many pous p known are) in
     let found : shown_known k ≡ looked_up pous p e =
-        ap shown_known is
-        ∙ sym (get_or-map shown_known known i k (shown_known k) within)
-        ∙ ap (λ (ls : List Looked). get_or ls i (shown_known k)) are
-        ∙ get_or-map (looked_up pous p) es i k.element.now (shown_known k) long in
+    ap shown_known is
+    ∙ sym (get_or-map shown_known known i k (shown_known k) within)
+    ∙ ap (λ (ls : List Looked). get_or ls i (shown_known k)) are
+    ∙ get_or-map (looked_up pous p) es i k.element.now (shown_known k) long in
     let same : k.element.now ≡ e = ap (λ (l : Looked). l.element) found in
     (long, same, found ∙ ap (looked_up pous p) (sym same))
 

@@ -81,6 +81,6 @@ found_fed pous p f es [] found = refl
 found_fed pous p f es (x ∷ xs) found =
     let set = λ (fed : List diagram.Port). let e : DiagramElement = record x { fed = fed } in e in
     let same : filter (λ (o : diagram.Port). has f x.id o.pin) (ports x.kind) ≡ filter (is_fed (without_networks pous p es) x.id) (ports x.kind) =
-        same_pass (λ (o : diagram.Port). has f x.id o.pin) (is_fed (without_networks pous p es) x.id) (ports x.kind) (λ (o : diagram.Port). found x.id o.pin) in
+    same_pass (λ (o : diagram.Port). has f x.id o.pin) (is_fed (without_networks pous p es) x.id) (ports x.kind) (λ (o : diagram.Port). found x.id o.pin) in
     ap (λ fed. set fed ∷ map (with_found f) xs) same
     ∙ ap (λ ys. with_fed (without_networks pous p es) x ∷ ys) (found_fed pous p f es xs found)

@@ -1,5 +1,5 @@
 -- What a block lists, and what it is by that.
-use Rattle.std.specs.Prelude.{◌≡◌, ℕ, List, [], Option, Some, map, drop, length}
+use Rattle.std.specs.Prelude.{◌≡◌, ℕ, List, [], Option, map, drop, length}
 use Rattle.std.specs.List.{zip}
 use Rattle.std.specs.Option.{option_map}
 use Rattle.std.specs.Borrow.{Bor}

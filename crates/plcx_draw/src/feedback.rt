@@ -7,9 +7,7 @@ ghost use Rattle.plcx_drawn.specs.Shown.{shown_source, shown_link, shown_enable,
 ghost use Rattle.plcx_draw.specs.Feedback.{has, Adds, shown_bare, link_of_input, kind_reads_back};
 
 use indexmap::IndexSet;
-use plcx_drawn::{
-    Element, ElementKind, Enable, InputPin, Link, Output, Port, Source, ports,
-};
+use plcx_drawn::{Element, ElementKind, Enable, InputPin, Link, Output, Port, Source, ports};
 use plcx_types::NoMemory;
 use sqlite_items::Items;
 use std::alloc::Global;

@@ -140,7 +140,14 @@ impl<'s, 'a> Sheet<'s, 'a> {
             } => {
                 let instance = text_of(instance);
                 let (inputs, in_outs) = (inputs.as_slice(), in_outs.as_slice());
-                let listed = Listed::of(alloc, instance, inputs, in_outs, outputs.as_slice(), pins)?;
+                let listed = Listed::of(
+                    alloc,
+                    instance,
+                    inputs,
+                    in_outs,
+                    outputs.as_slice(),
+                    pins,
+                )?;
                 self.block(alloc, known.callee, known.outputs.as_slice(), &listed)
             }
             Kind::Connector { .. } | Kind::Continuation { .. } => {

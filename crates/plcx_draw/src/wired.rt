@@ -91,10 +91,7 @@ fn is_taken(input: &PinIn) -> bool
 }
 
 /// The connected inputs beside EN.
-pub(crate) fn taken<'a>(
-    alloc: Global,
-    inputs: &[Wired<'a>],
-) -> Result<Vec<Wired<'a>>, NoMemory>
+pub(crate) fn taken<'a>(alloc: Global, inputs: &[Wired<'a>]) -> Result<Vec<Wired<'a>>, NoMemory>
     ensures { IfOk result (λ all. map shown_wired all.items ≡ among is_taken (map shown_wired inputs.now)) }
 {
     let mut all = Vec::new(alloc);

@@ -25,11 +25,11 @@ returns c =
     let own_types = get_or types.inputs place [] in
     let own_sources = get_or links.bodies place [] in
     let elements : map shown_element c.from_vec.result ≡ elements_of pous p (pins_from own_types own_sources body.marks) =
-        ap (map shown_element) c.from_vec.ensures
-        ∙ c.in_ok-elements.ensures
-        ∙ ap (λ (marks : List Bool). elements_of pous p (pins_from ts ss marks)) c.marks_at.ensures
-        ∙ ap (λ (sources : List (List Source)). elements_of pous p (pins_from ts sources body.marks)) c.sources_at.ensures
-        ∙ ap (λ (tys : List Ty). elements_of pous p (pins_from tys own_sources body.marks)) c.types_at.ensures in
+    ap (map shown_element) c.from_vec.ensures
+    ∙ c.in_ok-elements.ensures
+    ∙ ap (λ (marks : List Bool). elements_of pous p (pins_from ts ss marks)) c.marks_at.ensures
+    ∙ ap (λ (sources : List (List Source)). elements_of pous p (pins_from ts sources body.marks)) c.sources_at.ensures
+    ∙ ap (λ (tys : List Ty). elements_of pous p (pins_from tys own_sources body.marks)) c.types_at.ensures in
     pou_at project links types plan place p c.requires stands
     ∙ ap Some (same_parts pous p c.pou.result.now (elements_of pous p (pins_from own_types own_sources body.marks)) (map shown_element c.from_vec.result) body.networks c.networks_at.result.now
-        c.pou.ensures elements c.networks_at.ensures)
+    c.pou.ensures elements c.networks_at.ensures)

@@ -1,4 +1,4 @@
-use Rattle.std.proofs.Common.{◌≡◌, ◌<◌, None, get_or, length, map, arith, refl}
+use Rattle.std.proofs.Common.{◌<◌, None, get_or, length, map, arith, refl}
 use Rattle.plcx_drawn.specs.Shown.{shown_output_pin}
 use Rattle.plcx_view.specs.Blocks.{beside, output_pin}
 use Rattle.plcx_draw.specs.Known.{shown_output}

@@ -16,7 +16,7 @@ returns c =
     let bare = map shown_bare c.in_ok-bare.bare.items in
     let feedback = c.in_ok-feedback.feedback in
     let found : (id : ℕ) (pin : List ℕ) → has feedback id pin ≡ list_any (λ (e : DiagramElement). kind_reads_back id pin e.kind) bare =
-        λ id pin. c.in_ok-feedback.ensures id pin ∙ ap (λ (bs : List Bare). list_any (λ (e : DiagramElement). kind_reads_back id pin e.kind) (map shown_bare bs)) c.deref.ensures.value in
+    λ id pin. c.in_ok-feedback.ensures id pin ∙ ap (λ (bs : List Bare). list_any (λ (e : DiagramElement). kind_reads_back id pin e.kind) (map shown_bare bs)) c.deref.ensures.value in
     c.in_ok-with_fed.ensures
     ∙ found_fed own.pous own.pou feedback bare bare found
     ∙ ap (λ (es : List DiagramElement). map (with_fed (without_networks own.pous own.pou es)) es) c.in_ok-bare.ensures

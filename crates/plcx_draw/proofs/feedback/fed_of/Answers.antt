@@ -1,4 +1,4 @@
-use Rattle.std.proofs.Common.{◌≡◌, ◌∙◌, [], map, sym, ap, rules}
+use Rattle.std.proofs.Common.{◌∙◌, map, sym, ap}
 use Rattle.plcx_meaning.specs.Diagram as diagram
 use Rattle.plcx_meaning.specs.Diagram.{ports}
 use Rattle.plcx_drawn.specs.Shown.{shown_port, shown_kind}

@@ -1,4 +1,4 @@
-use Rattle.std.proofs.Common.{◌≡◌, ◌≤◌, ◌∙◌, ◌+◌, ◌++◌, List, [], ◌∷◌, map, drop, length, sym, ap, arith}
+use Rattle.std.proofs.Common.{◌≤◌, ◌∙◌, ◌+◌, ◌++◌, List, [], ◌∷◌, map, drop, length, sym, ap, arith}
 use Rattle.std.proofs.lemmas.List.{append-nil, drop_all, map-append}
 use Rattle.plcx_meaning.specs.Diagram.{DiagramElement}
 use Rattle.plcx_model.specs.declared.body.BodyElement.{BodyElement}

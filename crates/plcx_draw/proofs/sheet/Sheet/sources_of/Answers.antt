@@ -1,4 +1,4 @@
-use Rattle.std.proofs.Common.{◌≡◌, ◌≤◌, ◌++◌, ◌∙◌, List, Bool, map, min, length, sym, ap, arith}
+use Rattle.std.proofs.Common.{◌≤◌, ◌++◌, ◌∙◌, List, map, min, length, sym, ap, arith}
 use Rattle.std.proofs.lemmas.List.{append-nil}
 use Rattle.plcx_drawn.specs.Shown.{shown_source}
 use Rattle.plcx_view.specs.Links.{source_of}
