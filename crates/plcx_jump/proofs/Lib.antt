@@ -1,2 +1,0 @@
-pub mod WireNames
-pub mod Texts
