@@ -10,7 +10,7 @@ use Rattle.plcx_model.specs.declared.broken.Broken as model
 use Rattle.plcx_model.specs.declared.broken.Place.TheVariants.{Byte}
 use Rattle.plcx_model.specs.declared.project.Project.{Project}
 use Rattle.plcx_profile.specs.Profile.{IsBroken, ProfileVerdict, project_in}
-use Rattle.plcx_rules.specs.CheckVerdict.{CheckVerdict}
+use Rattle.plcx_rules.specs.CheckVerdict.{CheckVerdict, broken_at}
 
 pub data Verdict : Type 0 where
   -- no rule is broken
@@ -20,7 +20,7 @@ pub data Verdict : Type 0 where
 
 -- a rule that is broken at a byte
 abbrev pub at_byte : ℕ → ℕ → model.Broken
-at_byte rule byte = record { rule = record { 0 = rule }; place = Byte byte }
+at_byte rule byte = broken_at rule (Byte byte)
 
 -- the rule behind a fault of the tree
 abbrev pub tree_rule : XmlError → Option model.Broken

@@ -27,6 +27,7 @@ pub enum Side {
     Outputs,
 }
 
+/// Whether a pin is an EN without a connection, which counts as absent.
 pub fn is_absent(pin: &PinIn) -> bool
     ensures { result ≡ is_absent pin.now }
 {
