@@ -2,7 +2,6 @@
 ghost use Rattle.std.specs.Prelude.{◌≡◌, ◌∷◌, ◌++◌, ◌+◌, ◌<◌, ◌^◌, [], IfOk, OnOk, map, length};
 ghost use Rattle.std.specs.List.{flat_map};
 ghost use Rattle.plcx_types.specs.Lists.{Each};
-ghost use Rattle.plcx_meaning.specs.Tree as tree;
 ghost use Rattle.plcx_meaning.specs.Tree.{Assign, statements, arms};
 ghost use Rattle.plcx_meaning.specs.Diagram.{has_jump};
 ghost use Rattle.plcx_meaning.specs.Templates.{counter_name, dint, elements_text, choice_text, choices_text, turn_text, arms_text, straight_text, jumping_text, body_text};
@@ -32,7 +31,7 @@ fn dint(number: usize) -> Expr
 }
 
 fn counter(alloc: Global) -> Result<Expr, NoMemory>
-    ensures { IfOk result (λ e. expr_meant e ≡ tree.Name counter_name) }
+    ensures { IfOk result (λ e. expr_meant e ≡ Name counter_name) }
 {
     Ok(Expr::Name(counter_word(alloc)?))
 }
@@ -47,6 +46,23 @@ fn set_counter(alloc: Global, number: usize) -> Result<Stmt, NoMemory>
     })
 }
 
+/// The network of that number follows where the condition of a jump or a return is TRUE.
+fn choice(alloc: Global, id: u64, number: usize) -> Result<Stmt, NoMemory>
+    requires { IsWord (wire_name id []) }
+    ensures { IfOk result (λ s. stmt_meant s ≡ If (wire id []) (statements (Assign counter_name (dint number) ∷ []))) }
+{
+    let mut body = Items::new(alloc);
+    body.push(set_counter(alloc, number)?)?;
+    Ok(Stmt::If {
+        cond: Expr::Name(wire_word(alloc, id, b"")?),
+        body,
+    })
+}
+
+ghost use Rattle.plcx_meaning.specs.Tree.{If, While, Case, Binary, Less, Name};
+ghost use Rattle.plcx_meaning.specs.Templates.{wire, wire_name};
+ghost use Rattle.plcx_st.specs.InRange.{IsWord};
+
 /// The counter gets where a jump or a return leads, if the element is one.
 fn put_choice(
     alloc: Global,
@@ -58,12 +74,7 @@ fn put_choice(
     ensures { OnOk result (map stmt_meant body.new.items ≡ map stmt_meant body.old.items ++ choice_text targets.now (shown_element element.now)) }
 {
     if let Some(number) = targets.leads_to(alloc, &element.kind)? {
-        let mut then = Items::new(alloc);
-        then.push(set_counter(alloc, number)?)?;
-        body.push(Stmt::If {
-            cond: Expr::Name(wire_word(alloc, element.id, b"")?),
-            body: then,
-        })?;
+        body.push(choice(alloc, element.id, number)?)?;
     }
     Ok(())
 }
@@ -140,12 +151,34 @@ fn arms(alloc: Global, drawing: &Drawing, targets: &Targets) -> Result<Vec<Arm>,
 
 /// While the counter is less than the number of networks.
 fn condition(alloc: Global, end: usize) -> Result<Expr, NoMemory>
-    ensures { IfOk result (λ e. expr_meant e ≡ tree.Binary tree.Less (tree.Name counter_name) (dint end)) }
+    ensures { IfOk result (λ e. expr_meant e ≡ Binary Less (Name counter_name) (dint end)) }
 {
     Ok(Expr::Binary {
         op: Op::Less,
         left: Boxed::new(alloc, counter(alloc)?)?,
         right: Boxed::new(alloc, dint(end))?,
+    })
+}
+
+/// The arm of the counter's number is done.
+fn selection(alloc: Global, each: Vec<Arm>) -> Result<Stmt, NoMemory>
+    ensures { IfOk result (λ s. stmt_meant s ≡ Case (Name counter_name) (arms (map arm_meant each.items))) }
+{
+    Ok(Stmt::Case {
+        value: counter(alloc)?,
+        arms: Items::from_vec(each),
+    })
+}
+
+/// A statement is done while the counter is less than the number of networks.
+fn repetition(alloc: Global, end: usize, stmt: Stmt) -> Result<Stmt, NoMemory>
+    ensures { IfOk result (λ s. stmt_meant s ≡ While (Binary Less (Name counter_name) (dint end)) (statements (stmt_meant stmt ∷ []))) }
+{
+    let mut body = Items::new(alloc);
+    body.push(stmt)?;
+    Ok(Stmt::While {
+        cond: condition(alloc, end)?,
+        body,
     })
 }
 
@@ -156,18 +189,10 @@ fn jumping(alloc: Global, drawing: &Drawing) -> Result<Vec<Stmt>, NoMemory>
     ensures { IfOk result (λ body. map stmt_meant body.items ≡ jumping_text (shown_networks drawing.now)) }
 {
     let targets = Targets::of(alloc, drawing)?;
-    let case = Stmt::Case {
-        value: counter(alloc)?,
-        arms: Items::from_vec(arms(alloc, drawing, &targets)?),
-    };
-    let mut turns = Items::new(alloc);
-    turns.push(case)?;
+    let selection = selection(alloc, arms(alloc, drawing, &targets)?)?;
     let mut body = Vec::new(alloc);
     body.push(set_counter(alloc, 0)?)?;
-    body.push(Stmt::While {
-        cond: condition(alloc, drawing.networks.len())?,
-        body: turns,
-    })?;
+    body.push(repetition(alloc, targets.end(), selection)?)?;
     Ok(body)
 }
 

@@ -174,19 +174,50 @@ fn has_edge(kind: &ElementKind) -> bool
     }
 }
 
+/// What an element remembers at its edge, if it has one.
+fn put_edge(alloc: Global, decls: &mut Vec<Decl>, element: &Element) -> Result<(), NoMemory>
+    requires { Each DeclarationInRange (edge_memories (shown_element element.now)) }
+    ensures { OnOk result (map decl_meant decls.new.items ≡ map decl_meant decls.old.items ++ edge_memories (shown_element element.now)) }
+{
+    if has_edge(&element.kind) {
+        decls.push(own_decl(alloc, edge_word(alloc, element.id)?, Ty::Bool)?)?;
+    }
+    Ok(())
+}
+
+/// The variable of an output that feeds back.
+fn fed_decl(alloc: Global, id: u64, port: &Port) -> Result<Decl, NoMemory>
+    requires { DeclarationInRange (fed_memory id (shown_port port.now)) }
+    ensures { IfOk result (λ decl. decl_meant decl ≡ fed_memory id (shown_port port.now)) }
+{
+    own_decl(alloc, fed_word(alloc, id, port.pin)?, port.ty)
+}
+
+ghost use Rattle.plcx_jump.specs.Texts.{edge_memories, fed_memory, wire_of, temporaries, blocks_of};
+
+/// What feeds back of an element.
+fn put_fed(
+    alloc: Global,
+    decls: &mut Vec<Decl>,
+    id: u64,
+    fed: &[Port],
+) -> Result<(), NoMemory>
+    requires { Each DeclarationInRange (map (fed_memory id) (map shown_port fed.now)) }
+    ensures { OnOk result (map decl_meant decls.new.items ≡ map decl_meant decls.old.items ++ map (fed_memory id) (map shown_port fed.now)) }
+{
+    for port in fed {
+        decls.push(fed_decl(alloc, id, port)?)?;
+    }
+    Ok(())
+}
+
 /// What an element remembers: its edge, then what feeds back.
 fn put_memories(alloc: Global, decls: &mut Vec<Decl>, element: &Element) -> Result<(), NoMemory>
     requires { Each DeclarationInRange (element_memories (shown_element element.now)) }
     ensures { OnOk result (map decl_meant decls.new.items ≡ map decl_meant decls.old.items ++ element_memories (shown_element element.now)) }
 {
-    if has_edge(&element.kind) {
-        decls.push(own_decl(alloc, edge_word(alloc, element.id)?, Ty::Bool)?)?;
-    }
-    for port in element.fed.as_slice() {
-        let name = fed_word(alloc, element.id, port.pin)?;
-        decls.push(own_decl(alloc, name, port.ty)?)?;
-    }
-    Ok(())
+    put_edge(alloc, decls, element)?;
+    put_fed(alloc, decls, element.id, element.fed.as_slice())
 }
 
 fn memory_decls(alloc: Global, elements: &[Element]) -> Result<Vec<Decl>, NoMemory>
@@ -202,13 +233,27 @@ fn memory_decls(alloc: Global, elements: &[Element]) -> Result<Vec<Decl>, NoMemo
 
 /// The temporary of a wire.
 fn wire_decl(alloc: Global, id: u64, port: &Port) -> Result<Decl, NoMemory>
-    requires { IsWord (wire_name id port.now.pin.now) }
-    ensures { IfOk result (λ decl. decl_meant decl ≡ own (wire_name id port.now.pin.now) port.now.ty) }
+    requires { DeclarationInRange (wire_of id (shown_port port.now)) }
+    ensures { IfOk result (λ decl. decl_meant decl ≡ wire_of id (shown_port port.now)) }
 {
     own_decl(alloc, wire_word(alloc, id, port.pin)?, port.ty)
 }
 
-ghost use Rattle.plcx_meaning.specs.Templates.{wire_name};
+/// These wires of an element.
+fn put_ports(
+    alloc: Global,
+    decls: &mut Vec<Decl>,
+    id: u64,
+    wires: &[Port],
+) -> Result<(), NoMemory>
+    requires { Each DeclarationInRange (map (wire_of id) (map shown_port wires.now)) }
+    ensures { OnOk result (map decl_meant decls.new.items ≡ map decl_meant decls.old.items ++ map (wire_of id) (map shown_port wires.now)) }
+{
+    for port in wires {
+        decls.push(wire_decl(alloc, id, port)?)?;
+    }
+    Ok(())
+}
 
 /// The wires of an element.
 fn put_wires(alloc: Global, decls: &mut Vec<Decl>, element: &Element) -> Result<(), NoMemory>
@@ -216,10 +261,7 @@ fn put_wires(alloc: Global, decls: &mut Vec<Decl>, element: &Element) -> Result<
     ensures { OnOk result (map decl_meant decls.new.items ≡ map decl_meant decls.old.items ++ element_wires (shown_element element.now)) }
 {
     let wires = ports(alloc, &element.kind)?;
-    for port in &wires {
-        decls.push(wire_decl(alloc, element.id, port)?)?;
-    }
-    Ok(())
+    put_ports(alloc, decls, element.id, wires.as_slice())
 }
 
 fn wire_decls(alloc: Global, elements: &[Element]) -> Result<Vec<Decl>, NoMemory>
@@ -248,8 +290,6 @@ fn temporary_decls(
     }
     Ok(decls)
 }
-
-ghost use Rattle.plcx_jump.specs.Texts.{temporaries, blocks_of};
 
 /// All blocks of a POU: its lists, its memories, and its temporaries.
 pub fn blocks(
