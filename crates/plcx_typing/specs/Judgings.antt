@@ -33,8 +33,11 @@ pub record IsJudged (s : Sheet) (wires : List WireForm) (j : Judged) : Type 0 wh
   pub shared : (e : ℕ) → (form_at s e).grouping ≢ Apart → HasNoType s e ⊎ ((t : Ty) × HasType s (AtGroup e) t)
   pub pin_count : length j.inputs ≡ length s.pins
   pub pins : (i : ℕ) (t : Ty) → i < length s.pins → HasType s (AtPin i) t → HasType s (AtPin i) (get_or j.inputs i ty.Bool)
+  -- what is given is a type of the pin, or else BOOL
+  pub given_pin : (i : ℕ) → i < length s.pins → HasType s (AtPin i) (get_or j.inputs i ty.Bool) ⊎ (get_or j.inputs i ty.Bool ≡ ty.Bool)
   pub wire_count : length j.wires ≡ length wires
   pub each_wire : (k : ℕ) (t : Ty) → k < length wires → WireHas s (wire_at wires k) t → WireHas s (wire_at wires k) (get_or j.wires k ty.Bool)
+  pub given_wire : (k : ℕ) → k < length wires → WireHas s (wire_at wires k) (get_or j.wires k ty.Bool) ⊎ (get_or j.wires k ty.Bool ≡ ty.Bool)
 
 abbrev pub no_judged : Judged
 no_judged = record { untyped = []; disagreeing = []; outside = []; inputs = []; wires = [] }

@@ -44,8 +44,8 @@ impl Flow {
         requires source { Contains (sources_at (sheet forms.now pins.now links.now) pin) source }
         requires flow { IsFlowOf (sheet forms.now pins.now links.now) self.old.seeds.items self.old.next.items }
         ensures flow { OnOk result (IsFlowOf (sheet forms.now pins.now links.now) self.new.seeds.items self.new.next.items) }
-        ensures fed { OnOk result (Feeds self.new.seeds.items self.new.next.items (pin_at (sheet forms.now pins.now links.now) pin).element
-            source (gives_at (sheet forms.now pins.now links.now) source)) }
+        ensures fed { OnOk result (Feeds self.new.seeds.items self.new.next.items (pin_at (sheet forms.now pins.now links.now) pin).element source
+            (gives_at (sheet forms.now pins.now links.now) source)) }
         ensures grows { OnOk result (Grows self.old.seeds.items self.old.next.items self.new.seeds.items self.new.next.items) }
     {
         let element = pins[pin].element;

@@ -1,16 +1,14 @@
 -- What is found by a name is what is found by the name in lower case.
-use Rattle.std.proofs.Common.{◌≡◌, ℕ, List, option_map, refl}
-use Rattle.std.specs.List.{find, position_from}
+use Rattle.std.proofs.Common.{◌≡◌, ℕ, List, refl}
+use Rattle.std.specs.List.{position_from}
 use Rattle.plcx_types.specs.Name.{in_lower_case}
 use Rattle.plcx_model.specs.declared.body.BodyElement.{BodyElement}
 use Rattle.plcx_model.specs.declared.body.Kind.{Kind}
 use Rattle.plcx_model.specs.declared.body.Kind.TheVariants as kind
-use Rattle.plcx_rules.specs.Callees.{BlockPin, pin_named}
 use Rattle.plcx_rules.specs.LinkRules.{is_label_named}
 use Rattle.plcx_rules.specs.Sources.{connector_place, is_connector_named}
 use Rattle.plcx_names.specs.Bodies.{is_key_of, name_in, label_place}
 use Rattle.plcx_names.specs.declared.places.Naming.TheVariants.{Connectors, Labels}
-use Rattle.plcx_names.specs.Seen.{is_pin}
 use Rattle.plcx_names.specs.Told.{is_key}
 use Rattle.plcx_names.proofs.Finding.{same_place}
 
@@ -52,7 +50,3 @@ connector_is elements name = same_place _ (is_key_of Connectors (in_lower_case n
 
 pub label_is : (elements : List BodyElement) (name : List ℕ) → label_place elements name ≡ position_from (is_key_of Labels (in_lower_case name)) 0 elements
 label_is elements name = same_place _ (is_key_of Labels (in_lower_case name)) 0 elements (λ (e : BodyElement). by_label name e.kind)
-
--- the type of a pin, by a key
-pub pin_is : (name : List ℕ) (pins : List BlockPin) → option_map (λ (p : BlockPin). p.ty) (pin_named name pins) ≡ option_map (λ (p : BlockPin). p.ty) (find (is_pin (in_lower_case name)) pins)
-pin_is name pins = refl
