@@ -2,3 +2,4 @@ pub mod Walks
 pub mod Blocks
 pub mod Jumps
 pub mod Choices
+pub mod Places

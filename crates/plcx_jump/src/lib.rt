@@ -5,8 +5,8 @@
 #![tactic(auto)]
 
 mod bodies;
-// mod compiling;
+mod compiling;
 mod declaring;
 mod targets;
 
-// pub use compiling::compile;
+pub use compiling::compile;
