@@ -16,7 +16,7 @@ use Rattle.plcx_model.specs.declared.project.Project.{Project}
 use Rattle.plcx_model.specs.declared.source.Source.{Source}
 use Rattle.plcx_model.specs.Feedback.{IsFeedback, AreMarks}
 use Rattle.plcx_model.specs.Graph.{Graph, IsGraph, from_at, to_at}
-use Rattle.plcx_model.specs.Networks.{IsNetwork, AreNetworks, HaveOneListOfNetworks}
+use Rattle.plcx_model.specs.Networks.{IsNetwork, HaveOneListOfNetworks}
 use Rattle.plcx_model.specs.Orders.{IsOrder, AreOrders, HaveOneOrder}
 use Rattle.plcx_model.proofs.BodyGraphs.{is_graph}
 use Rattle.plcx_meaning.specs.Diagram as diagram
@@ -47,8 +47,8 @@ one_types s wires xs ys given other a b = same_lists xs ys (a.pin_count ∙ sym 
     let there : i < length ys = omega (arith, pin, b.pin_count) in
     get_or_default xs i d ty.Bool low
     ∙ one_type (get_or xs i ty.Bool) (get_or ys i ty.Bool) (λ differ.
-      let none : (t : Ty) → HasType s (AtPin i) t → ⊥ = λ t has. differ (sym (a.each_pin i t pin has) ∙ b.each_pin i t pin has) in
-      a.other_pin i pin none ∙ sym (b.other_pin i pin none))
+    let none : (t : Ty) → HasType s (AtPin i) t → ⊥ = λ t has. differ (sym (a.each_pin i t pin has) ∙ b.each_pin i t pin has) in
+    a.other_pin i pin none ∙ sym (b.other_pin i pin none))
     ∙ sym (get_or_default ys i d ty.Bool there))
 
 -- ---- plans

@@ -24,5 +24,6 @@ pub use owner::Owner;
 pub use pins::{OwnPin, standard_pin};
 pub use places::Places;
 pub use scope::{Scope, narrow};
+pub use tables::with_name;
 pub use texts::{in_lower_case, same_name, trimmed};
 pub use variables::{Declared, OwnVariable};
