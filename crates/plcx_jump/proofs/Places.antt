@@ -3,8 +3,9 @@ use Rattle.std.proofs.Common.{◌≡◌, ℕ, zero, suc, ◌+◌, ◌<◌, ◌�
 use Rattle.std.specs.Prelude.{slice_get}
 use Rattle.std.specs.List.{AllZip}
 use Rattle.std.specs.Option.{option_map}
-use Rattle.std.proofs.lemmas.List.{take_more}
+use Rattle.std.proofs.lemmas.List.{take_more, get_or_default}
 use Rattle.std.proofs.lemmas.Option.{slice_get-map, get_or_from_slice_get}
+use Rattle.plcx_types.specs.declared.ty.Ty.{Ty}
 use Rattle.plcx_types.specs.Limits.{max_elements}
 use Rattle.plcx_types.specs.Lists.{Each}
 use Rattle.plcx_meaning.specs.Diagram as diagram
@@ -13,10 +14,13 @@ use Rattle.plcx_meaning.specs.Templates.{pou_text, unit_of}
 use Rattle.plcx_meaning.specs.Tree.{PouText}
 use Rattle.plcx_model.specs.declared.plan.Links.{Links}
 use Rattle.plcx_model.specs.declared.plan.Types.{Types}
+use Rattle.plcx_model.specs.declared.plan.BodyPlan.{BodyPlan}
 use Rattle.plcx_model.specs.declared.plan.Plan.{Plan}
 use Rattle.plcx_model.specs.declared.project.Pou.{Pou}
 use Rattle.plcx_model.specs.declared.project.Project.{Project}
-use Rattle.plcx_fits.proofs.Lists.{each_place}
+use Rattle.plcx_model.specs.declared.source.Source.{Source}
+use Rattle.plcx_rules.specs.Sources.{links_of}
+use Rattle.plcx_view.specs.Checked.{IsChecked}
 use Rattle.plcx_view.specs.Diagrams.{pou_of, pous_from, diagrams_of, no_plan}
 use Rattle.plcx_st.specs.InRange.{PouInRange, UnitInRange}
 
@@ -32,6 +36,17 @@ pub item_there : {A : Type 0} (xs : List A) (i : ℕ) (x : A) → i < length xs 
 item_there [] i x low is = absurd (omega arith)
 item_there (y ∷ ys) zero x low is = ap Some (sym is)
 item_there (y ∷ ys) (suc i) x low is = item_there ys i x (omega arith) is
+
+-- what holds of each item holds of the one at a place
+each_place : {A : Type 0} (P : A → Type 0) (xs : List A) (i : ℕ) (x : A) → slice_get xs i ≡ Some x → Each P xs → P x
+each_place P [] i x at h = absurd (cc)
+each_place P (y ∷ ys) zero x at h = let same : y ≡ x = cc in subst P same h.0
+each_place P (y ∷ ys) (suc i) x at h = each_place P ys i x at h.1
+
+-- as many items as before
+pub mapped_length : {A B : Type 0} (f : A → B) (xs : List A) → length (map f xs) ≡ length xs
+mapped_length f [] = refl
+mapped_length f (x ∷ xs) = ap suc (mapped_length f xs)
 
 -- one item more
 pub taken_more : {A : Type 0} (xs : List A) (i : ℕ) (x : A) → slice_get xs i ≡ Some x → take (i + 1) xs ≡ take i xs ++ x ∷ []
@@ -63,11 +78,26 @@ module _ (project : Project) (links : Links) (types : Types) (plan : Plan) where
   count_from n (p ∷ ps) = ap suc (count_from (n + 1) ps)
 
   pub count_of : length (unit_of diagrams) ≡ length project.pous
-  count_of = mapped diagrams ∙ count_from 0 project.pous
-    where
-      mapped : (ds : diagram.Project) → length (map pou_text ds) ≡ length ds
-      mapped [] = refl
-      mapped (d ∷ ds) = ap suc (mapped ds)
+  count_of = mapped_length pou_text diagrams ∙ count_from 0 project.pous
+
+  module _ (c : IsChecked project links types plan) where
+    pub links_count : length links.bodies ≡ length project.pous
+    links_count = ap length c.linked ∙ mapped_length _ project.pous
+
+    pub plans_count : length plan.bodies ≡ length project.pous
+    plans_count = sym (zipped_length _ project.pous plan.bodies c.planned)
+
+    -- the diagram of the POU at a place, with what was found out about its body
+    pub seen_by : (i : ℕ) (p : Pou) (sources : List (List Source)) (own : List Ty) (body : BodyPlan) → i < length project.pous → p ≡ get_or project.pous i p
+        → sources ≡ get_or links.bodies i sources → own ≡ get_or types.inputs i own → body ≡ get_or plan.bodies i body → slice_get diagrams i ≡ Some (pou_of project.pous p sources own body)
+    seen_by i p sources own body low p_is sources_is own_is body_is =
+        let linked = links_count in
+        let planned = plans_count in
+        let typed = c.typed.inputs in
+        seen_at i p (item_there project.pous i p low p_is)
+        ∙ ap (λ x. Some (pou_of project.pous p x (get_or types.inputs i []) (get_or plan.bodies i no_plan))) (get_or_default links.bodies i [] sources (omega (arith, linked, low)) ∙ sym sources_is)
+        ∙ ap (λ x. Some (pou_of project.pous p sources x (get_or plan.bodies i no_plan))) (get_or_default types.inputs i [] own (omega (arith, typed, low)) ∙ sym own_is)
+        ∙ ap (λ x. Some (pou_of project.pous p sources own x)) (get_or_default plan.bodies i no_plan body (omega (arith, planned, low)) ∙ sym body_is)
 
 -- the text of the diagram at a place
 pub text_there : (diagrams : diagram.Project) (i : ℕ) (d : diagram.Pou) → slice_get diagrams i ≡ Some d → slice_get (unit_of diagrams) i ≡ Some (pou_text d)

@@ -91,6 +91,20 @@ fn text_at(
     pou_text(alloc, checked.project().pous(), &drawing)
 }
 
+/// The texts of all POUs.
+fn texts(alloc: Global, checked: &Checked) -> Result<Vec<PouText>, NoMemory>
+    requires { IsChecked checked.now.project checked.now.links checked.now.types checked.now.plan }
+    ensures { IfOk result (λ texts. map pou_meant texts.items ≡ unit_of (diagrams_of checked.now.project checked.now.links checked.now.types checked.now.plan)) }
+{
+    let pous = checked.project().pous();
+    let scope = Scope::of(alloc, pous)?;
+    let mut texts = Vec::new(alloc);
+    for place in 0..pous.len() {
+        texts.push(text_at(alloc, &scope, checked, place)?)?;
+    }
+    Ok(texts)
+}
+
 /// The unit of a project that breaks no rule. Its words stand nowhere yet.
 pub fn compile(alloc: Global, checked: &Checked) -> Result<Unit, NoMemory>
     requires { IsChecked checked.now.project checked.now.links checked.now.types checked.now.plan }
@@ -104,13 +118,7 @@ pub fn compile(alloc: Global, checked: &Checked) -> Result<Unit, NoMemory>
     texts_are_in_range();
     texts_are_ready();
     same_behavior();
-    let pous = checked.project().pous();
-    let scope = Scope::of(alloc, pous)?;
-    let mut texts = Vec::new(alloc);
-    for place in 0..pous.len() {
-        texts.push(text_at(alloc, &scope, checked, place)?)?;
-    }
     Ok(Unit {
-        pous: Items::from_vec(texts),
+        pous: Items::from_vec(texts(alloc, checked)?),
     })
 }

@@ -2,7 +2,7 @@ use Rattle.std.proofs.Common.{◌≡◌, map, take}
 use Rattle.plcx_meaning.specs.Templates.{unit_of}
 use Rattle.plcx_view.specs.Diagrams.{diagrams_of}
 use Rattle.plcx_st.specs.Meant.{pou_meant}
-use Rattle.plcx_jump.proofs.compiling.compile.Given as goal
+use Rattle.plcx_jump.proofs.compiling.texts.Given as goal
 
 -- the texts of the POUs so far
 abbrev pub invariant-loop-place : goal.invariant-loop-place
