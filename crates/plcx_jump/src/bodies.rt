@@ -13,21 +13,17 @@ ghost use Rattle.plcx_jump.specs.Labels.{network_of};
 
 use crate::targets::{Targets, element_at};
 use plcx_drawn::{Drawing, Element};
-use plcx_lower::{counter_word, lower_network, wire_word};
-use plcx_st::{Arm, Expr, Number, Op, Stmt};
+use plcx_lower::{counter_word, lower_network, lower_networks, number, wire_word};
+use plcx_st::{Arm, Expr, Op, Stmt};
 use plcx_types::{NoMemory, Span, Ty};
 use sqlite_items::{Boxed, Items};
 use std::alloc::Global;
 
 /// A number of the counter.
-fn dint(number: usize) -> Expr
-    ensures { expr_meant result ≡ dint number }
+fn dint(value: usize) -> Expr
+    ensures { expr_meant result ≡ dint value }
 {
-    Expr::Number(Number {
-        ty: Ty::Dint,
-        n: number as i128,
-        span: Span { start: 0, end: 0 },
-    })
+    number(Ty::Dint, value as i128)
 }
 
 fn counter(alloc: Global) -> Result<Expr, NoMemory>
@@ -48,7 +44,7 @@ fn set_counter(alloc: Global, number: usize) -> Result<Stmt, NoMemory>
 
 /// The network of that number follows where the condition of a jump or a return is TRUE.
 fn choice(alloc: Global, id: u64, number: usize) -> Result<Stmt, NoMemory>
-    requires { IsWord (wire_name id []) }
+    requires { IsTrue (is_identifier (wire_name id [])) }
     ensures { IfOk result (λ s. stmt_meant s ≡ If (wire id []) (statements (Assign counter_name (dint number) ∷ []))) }
 {
     let mut body = Items::new(alloc);
@@ -61,7 +57,8 @@ fn choice(alloc: Global, id: u64, number: usize) -> Result<Stmt, NoMemory>
 
 ghost use Rattle.plcx_meaning.specs.Tree.{If, While, Case, Binary, Less, Name};
 ghost use Rattle.plcx_meaning.specs.Templates.{wire, wire_name};
-ghost use Rattle.plcx_st.specs.InRange.{IsWord};
+ghost use Rattle.std.specs.Prelude.{IsTrue};
+ghost use Rattle.plcx_types.specs.Name.{is_identifier};
 
 /// The counter gets where a jump or a return leads, if the element is one.
 fn put_choice(
@@ -196,19 +193,6 @@ fn jumping(alloc: Global, drawing: &Drawing) -> Result<Vec<Stmt>, NoMemory>
     Ok(body)
 }
 
-/// The networks, one after another.
-fn straight(alloc: Global, drawing: &Drawing) -> Result<Vec<Stmt>, NoMemory>
-    requires { Each StatementInRange (straight_text (shown_networks drawing.now)) }
-    ensures { IfOk result (λ body. map stmt_meant body.items ≡ straight_text (shown_networks drawing.now)) }
-{
-    let mut body = Vec::new(alloc);
-    for network in drawing.networks {
-        let mut more = lower_network(alloc, drawing, network.as_slice())?;
-        body.append(&mut more)?;
-    }
-    Ok(body)
-}
-
 /// The statements of a body, which is a loop where it jumps.
 pub fn body(alloc: Global, drawing: &Drawing, jumps: bool) -> Result<Vec<Stmt>, NoMemory>
     requires jumps { jumps ≡ has_jump (shown_networks drawing.now) }
@@ -219,6 +203,6 @@ pub fn body(alloc: Global, drawing: &Drawing, jumps: bool) -> Result<Vec<Stmt>, 
     if jumps {
         jumping(alloc, drawing)
     } else {
-        straight(alloc, drawing)
+        lower_networks(alloc, drawing)
     }
 }

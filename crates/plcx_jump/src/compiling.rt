@@ -18,7 +18,7 @@ use plcx_check::Checked;
 use plcx_draw::draw;
 use plcx_drawn::Drawing;
 use plcx_fits::checked_fits;
-use plcx_lower::word;
+use plcx_lower::word_like;
 use plcx_meaning::{same_behavior, texts_are_ready};
 use plcx_model::{Pou, PouKind};
 use plcx_names::Scope;
@@ -48,7 +48,7 @@ fn pou_text(alloc: Global, pous: &[Pou], drawing: &Drawing) -> Result<PouText, N
     let body = body(alloc, drawing, jumps)?;
     Ok(PouText {
         kind: kind_of(pou.kind),
-        name: word(alloc, pou.name.text())?,
+        name: word_like(alloc, &pou.name)?,
         blocks: Items::from_vec(blocks),
         body: Items::from_vec(body),
     })
@@ -66,11 +66,11 @@ fn drawing_at<'a>(
     requires place { place < length checked.now.project.pous }
     ensures { IfOk result (λ d. slice_get (diagrams_of checked.now.project checked.now.links checked.now.types checked.now.plan) place ≡ Some (shown_pou checked.now.project.pous d)) }
 {
-    let pou = &checked.project().pous()[place];
+    let owner = &scope.owners()[place];
     let sources = checked.links().bodies()[place].as_slice();
     let types = checked.types().inputs()[place].as_slice();
     let plan = &checked.plan().bodies()[place];
-    draw(alloc, scope, pou, sources, types, plan)
+    draw(alloc, scope, owner, sources, types, plan)
 }
 
 /// The text of the POU at a place.

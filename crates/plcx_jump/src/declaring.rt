@@ -8,11 +8,11 @@ ghost use Rattle.plcx_meaning.specs.Diagram.{has_edge};
 ghost use Rattle.plcx_meaning.specs.Templates.{own, block, list_text, element_memories, element_wires};
 ghost use Rattle.plcx_view.specs.Declared.{spelled_type, declaration_of, class_of, mark_by, list_of, lists_of};
 ghost use Rattle.plcx_drawn.specs.Shown.{shown_kind, shown_element, shown_port};
-ghost use Rattle.plcx_st.specs.InRange.{IsWord, DeclarationInRange, BlockInRange};
+ghost use Rattle.plcx_st.specs.InRange.{DeclarationInRange, BlockInRange};
 ghost use Rattle.plcx_st.specs.Meant.{number_meant, decl_meant, block_meant, class_meant, mark_meant};
 
 use plcx_drawn::{Coiling, Contacting, Element, ElementKind, Port, ports};
-use plcx_lower::{counter_word, edge_word, fed_word, wire_word, word};
+use plcx_lower::{counter_word, edge_word, fed_word, wire_word, word_like, word_named};
 use plcx_model::{ListClass, Pou, VarList, VarTy, Variable};
 use plcx_st::{Decl, Mark, Number, TextBlock, TextClass, Word};
 use plcx_types::{NoMemory, Span, Ty, Val};
@@ -58,9 +58,9 @@ fn variable_decl(alloc: Global, pous: &[Pou], variable: &Variable) -> Result<Dec
     ensures { IfOk result (λ decl. decl_meant decl ≡ declaration_of pous.now variable.now) }
 {
     Ok(Decl {
-        name: word(alloc, variable.name.text())?,
+        name: word_like(alloc, &variable.name)?,
         address: address_of(alloc, &variable.address)?,
-        ty: word(alloc, spelled_type(pous, variable.ty))?,
+        ty: word_named(alloc, spelled_type(pous, variable.ty))?,
         initial: variable.initial.map(number_of),
     })
 }
@@ -156,7 +156,7 @@ fn own_decl(alloc: Global, name: Word, ty: Ty) -> Result<Decl, NoMemory>
     Ok(Decl {
         name,
         address: None,
-        ty: word(alloc, ty.name().as_bytes())?,
+        ty: word_named(alloc, ty.name().as_bytes())?,
         initial: None,
     })
 }

@@ -21,11 +21,11 @@ pub returns : goal.returns
 returns c =
     let a = c.args.checked.now in
     let i = c.args.place in
-    let p = c.index-pous-place.result in
+    let p = c.index-owners-place.result in
     let sources = c.index-bodies-place.result in
     let types = c.index-inputs-place.result in
     let plan = c.index-bodies-place-2.result in
-    let p_is = c.index-pous-place.is ∙ ap (λ (xs : List Pou). get_or xs i p) (c.pous.ensures ∙ ap (λ x. x.pous) c.project.ensures) in
+    let p_is = c.index-owners-place.is ∙ ap (λ (xs : List Pou). get_or xs i p) (c.owners.ensures ∙ c.requires.scope) in
     let sources_is = c.index-bodies-place.is ∙ ap (λ (xs : List (List (List Source))). get_or xs i sources) (c.bodies.ensures ∙ ap (λ x. x.bodies) c.links.ensures) in
     let types_is = c.index-inputs-place.is ∙ ap (λ (xs : List (List Ty)). get_or xs i types) (c.inputs.ensures ∙ ap (λ x. x.inputs) c.types.ensures) in
     let plan_is = c.index-bodies-place-2.is ∙ ap (λ (xs : List BodyPlan). get_or xs i plan) (c.bodies-2.ensures ∙ ap (λ x. x.bodies) c.plan.ensures) in
