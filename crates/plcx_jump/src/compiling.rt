@@ -15,7 +15,7 @@ use crate::bodies::body;
 use crate::declaring::blocks;
 use crate::targets::has_jump;
 use plcx_check::Checked;
-use plcx_draw::draw;
+use plcx_draw::drawing;
 use plcx_drawn::Drawing;
 use plcx_fits::checked_fits;
 use plcx_lower::word_like;
@@ -54,30 +54,11 @@ fn pou_text(alloc: Global, pous: &[Pou], drawing: &Drawing) -> Result<PouText, N
     })
 }
 
-/// The drawing of the POU at a place.
-fn drawing_at<'a>(
+/// The text of the POU at a place.
+fn text_at<'a>(
     alloc: Global,
     scope: &Scope<'a>,
     checked: &'a Checked,
-    place: usize,
-) -> Result<Drawing<'a>, NoMemory>
-    requires checked { IsChecked checked.now.project checked.now.links checked.now.types checked.now.plan }
-    requires scope { scope.now ≡ checked.now.project.pous }
-    requires place { place < length checked.now.project.pous }
-    ensures { IfOk result (λ d. slice_get (diagrams_of checked.now.project checked.now.links checked.now.types checked.now.plan) place ≡ Some (shown_pou checked.now.project.pous d)) }
-{
-    let owner = &scope.owners()[place];
-    let sources = checked.links().bodies()[place].as_slice();
-    let types = checked.types().inputs()[place].as_slice();
-    let plan = &checked.plan().bodies()[place];
-    draw(alloc, scope, owner, sources, types, plan)
-}
-
-/// The text of the POU at a place.
-fn text_at(
-    alloc: Global,
-    scope: &Scope,
-    checked: &Checked,
     place: usize,
 ) -> Result<PouText, NoMemory>
     requires checked { IsChecked checked.now.project checked.now.links checked.now.types checked.now.plan }
@@ -87,7 +68,14 @@ fn text_at(
 {
     checked_fits();
     texts_are_in_range();
-    let drawing = drawing_at(alloc, scope, checked, place)?;
+    let drawing = drawing(
+        alloc,
+        scope,
+        checked.links(),
+        checked.types(),
+        checked.plan(),
+        place,
+    )?;
     pou_text(alloc, checked.project().pous(), &drawing)
 }
 
