@@ -9,3 +9,4 @@ pub mod EventRows
 pub mod EventFiles
 pub mod OneEvents
 pub mod MeantEvents
+pub mod Stored
