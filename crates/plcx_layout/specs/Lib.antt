@@ -1,0 +1,3 @@
+-- The leaves of a program, and what is said of them.
+pub mod Leaves
+pub mod Laws

@@ -1,0 +1,8 @@
+//! The leaves of a program, from the declarations of its POUs and of those that it has instances of.
+//!
+//! `leaves_are_laid` says that they are the layout that the meaning of diagrams speaks of.
+#![tactic(auto)]
+
+mod laws;
+
+pub use laws::leaves_are_laid;
