@@ -1,6 +1,6 @@
 -- The leaves by the types of the file are those by the names of types.
-use Rattle.std.proofs.Common.{◌≡◌, ℕ, zero, suc, ℤ, pos, Bool, true, false, List, [], ◌∷◌, ◌++◌, map, Option, Some, None, slice_get, refl, sym, ap, ap₂, ◌∙◌, subst, if◌then◌else◌}
-use Rattle.std.specs.Prelude.{◌||◌, ◌&&◌, not}
+use Rattle.std.proofs.Common.{◌≡◌, ℕ, zero, suc, ℤ, pos, Bool, true, false, List, [], ◌∷◌, ◌++◌, map, Option, Some, None, refl, sym, ap, ◌∙◌, if◌then◌else◌}
+use Rattle.std.specs.Prelude.{◌||◌}
 use Rattle.std.specs.List.{flat_map}
 use Rattle.plcx_types.specs.declared.ty.Ty.{Ty}
 use Rattle.plcx_types.specs.Lists.{Each}
@@ -37,7 +37,7 @@ use Rattle.plcx_fits.proofs.Lists.{each_place}
 use Rattle.plcx_fits.proofs.Spelled.{kind_of_name, seen, whole}
 use Rattle.plcx_fits.proofs.Variables.{is_block, variables_differ}
 use Rattle.plcx_fits.proofs.Nests.{block_world}
-use Rattle.plcx_layout.specs.Leaves.{leaf_by, standard_leaves, lists_at, type_leaves, variable_leaves, list_leaves, leaves, program_leaves}
+use Rattle.plcx_layout.specs.Leaves.{leaf_by, standard_leaves, type_leaves, variable_leaves, list_leaves, leaves}
 use Rattle.plcx_layout.specs.Laws.{LeavesAreLaid}
 
 -- ---- lists
@@ -76,7 +76,7 @@ leaf_is : (c : Scope) (names : Spelling) (retained : Bool) (v : layout.Variable)
 leaf_is c names retained v t found kept =
     let initial : layout.initial_value v.initial ≡ initial_of (variable_at c (in_lower_case v.name ∷ path_of names)) = sym (ap initial_of found) in
     let marked : (retained || is_retain v.mark) ≡ (is_retained c (path_of names) || is_marked (variable_at c (in_lower_case v.name ∷ path_of names))) =
-        ap (λ b. b || is_retain v.mark) (sym kept) ∙ ap (λ (o : Option layout.Variable). is_retained c (path_of names) || is_marked o) (sym found) in
+    ap (λ b. b || is_retain v.mark) (sym kept) ∙ ap (λ (o : Option layout.Variable). is_retained c (path_of names) || is_marked o) (sym found) in
     ap (λ n. by_values names t v n (retained || is_retain v.mark)) initial
     ∙ ap (by_values names t v (initial_of (variable_at c (in_lower_case v.name ∷ path_of names)))) marked
 
@@ -147,7 +147,7 @@ standard_laid (suc n) c names retained k at kept =
     let vs = map pin_variable (pins k) in
     let own : variables_at c (path_of names) ≡ vs = at ∙ pin_variables k in
     let found : Each (IsFound c names) vs =
-        each_weaker (λ (v : layout.Variable). variable_named (in_lower_case v.name) vs ≡ Some v) (IsFound c names) vs (λ v named. ap (variable_named (in_lower_case v.name)) own ∙ named) (named_each vs (pins_differ k)) in
+    each_weaker (λ (v : layout.Variable). variable_named (in_lower_case v.name) vs ≡ Some v) (IsFound c names) vs (λ v named. ap (variable_named (in_lower_case v.name)) own ∙ named) (named_each vs (pins_differ k)) in
     pins_laid n c names retained kept (pins k) found
     ∙ ap (flat_map (layout.variable_leaves (layout.leaves n c) c names)) (sym (pin_variables k))
 
@@ -237,7 +237,7 @@ module _ (project : Project) (links : Links) (types : Types) (plan : Plan) (soun
   pou_laid (suc n) c world names retained p s at kept =
       let vs = layout.variables_of (lists_of pous p) in
       let found : Each (IsFound c names) vs =
-          each_weaker (λ (v : layout.Variable). variable_named (in_lower_case v.name) vs ≡ Some v) (IsFound c names) vs (λ v named. ap (variable_named (in_lower_case v.name)) at ∙ named) (named_each vs (variables_differ project links types plan sound p s)) in
+      each_weaker (λ (v : layout.Variable). variable_named (in_lower_case v.name) vs ≡ Some v) (IsFound c names) vs (λ v named. ap (variable_named (in_lower_case v.name)) at ∙ named) (named_each vs (variables_differ project links types plan sound p s)) in
       lists_laid n (pou_laid n) c world names retained kept p.lists (types_known p s) found
 
 pub leaves_laid : LeavesAreLaid

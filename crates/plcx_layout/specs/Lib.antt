@@ -1,3 +1,4 @@
 -- The leaves of a program, and what is said of them.
 pub mod Leaves
+pub mod Within
 pub mod Laws

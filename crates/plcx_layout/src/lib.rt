@@ -4,5 +4,7 @@
 #![tactic(auto)]
 
 mod laws;
+mod leaves;
 
 pub use laws::leaves_are_laid;
+pub use leaves::program_leaves;

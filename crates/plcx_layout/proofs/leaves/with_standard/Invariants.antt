@@ -1,0 +1,12 @@
+use Rattle.std.proofs.Common.{◌≡◌, ◌∷◌, ◌++◌, pos, false, map, drop}
+use Rattle.plcx_std.specs.Pins.{Pin, pins, shown}
+use Rattle.plcx_state.specs.Layouts.{all_meant}
+use Rattle.plcx_layout.specs.Leaves.{leaf_by}
+use Rattle.plcx_layout.specs.Within.{spelled}
+use Rattle.plcx_layout.proofs.leaves.with_standard.Given as goal
+
+-- behind the leaves that are made come those of the pins that are left
+abbrev pub invariant-loop-pin : goal.invariant-loop-pin
+invariant-loop-pin l =
+    let made = λ (p : Pin). leaf_by (p.name ∷ spelled l.within) p.ty (pos 0) l.retained false in
+    all_meant l.more.items ++ map made (map shown (drop l.pin-index l.pin-items)) ≡ all_meant l.fn.leaves.items ++ map made (pins l.fn.kind)
