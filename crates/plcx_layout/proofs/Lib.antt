@@ -1,2 +1,3 @@
 mod Laid
 pub mod Standing
+mod Stands

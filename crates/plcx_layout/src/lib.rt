@@ -6,5 +6,5 @@
 mod laws;
 mod leaves;
 
-pub use laws::leaves_are_laid;
+pub use laws::{leaves_are_laid, leaves_stand};
 pub use leaves::program_leaves;
