@@ -13,7 +13,7 @@ use Rattle.plcx_meaning.specs.Evaluate.{scope_of}
 use Rattle.plcx_meaning.specs.Fits.{PouFits}
 use Rattle.plcx_meaning.specs.Diagram as diagram
 use Rattle.plcx_meaning.specs.Layout.{Leaf, Spelling, path_of, initial_value, is_outside, is_kept, IsLayout, layout}
-use Rattle.plcx_meaning.proofs.Lists.{each_map, each_flat_map}
+use Rattle.plcx_meaning.proofs.Lists.{each_flat_map}
 use Rattle.plcx_meaning.proofs.LeafPaths.{proper_layout}
 use Rattle.plcx_meaning.proofs.LeafScopes.{diagram_scope}
 use Rattle.plcx_model.specs.declared.plan.Links.{Links}
@@ -28,14 +28,13 @@ use Rattle.plcx_model.specs.declared.project.Project.{Project}
 use Rattle.plcx_model.specs.Sound.{PouIsSound}
 use Rattle.plcx_state.specs.declared.layout.Leaf as code
 use Rattle.plcx_state.specs.Layouts.{meant, all_meant, HasName, LiesOutside, is_nameless}
-use Rattle.plcx_view.specs.Checked.{IsChecked}
 use Rattle.plcx_view.specs.Declared.{class_of}
 use Rattle.plcx_view.specs.Diagrams.{pous_from}
 use Rattle.plcx_fits.specs.Laws.{CheckedFits}
 use Rattle.plcx_fits.proofs.Lists.{each_place}
 use Rattle.plcx_fits.proofs.Nests.{leaves_fit}
 use Rattle.plcx_fits.proofs.Spelled.{seen, whole}
-use Rattle.plcx_layout.specs.Leaves.{Inner, leaf_by, standard_leaves, lists_at, type_leaves, variable_leaves, list_leaves, leaves, program_leaves}
+use Rattle.plcx_layout.specs.Leaves.{Inner, leaf_by, standard_leaves, lists_at, type_leaves, variable_leaves, list_leaves, leaves}
 use Rattle.plcx_layout.specs.Laws.{LeavesStand}
 use Rattle.plcx_layout.proofs.Laid.{leaves_laid}
 

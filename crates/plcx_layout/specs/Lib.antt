@@ -1,4 +1,5 @@
 -- The leaves of a program, and what is said of them.
 pub mod Leaves
 pub mod Within
+pub mod Suits
 pub mod Laws

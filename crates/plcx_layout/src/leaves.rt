@@ -2,7 +2,11 @@
 ghost use Rattle.std.specs.Prelude.{◌≡◌, ◌∷◌, ◌++◌, ◌||◌, ℕ, List, [], false, pos, map, IfOk};
 ghost use Rattle.plcx_std.specs.Pins.{shown};
 ghost use Rattle.plcx_meaning.specs.Layout.{initial_value, is_kept, is_outside, is_retain, is_constant, path_of};
-ghost use Rattle.plcx_state.specs.Layouts.{meant, all_meant};
+ghost use Rattle.plcx_types.specs.Lists.{Each};
+ghost use Rattle.plcx_model.specs.declared.project.VarTy.TheVariants.{Plain};
+ghost use Rattle.plcx_model.specs.Sound.{InitialSuits};
+ghost use Rattle.plcx_state.specs.Layouts.{meant, all_meant, BeginsTyped};
+ghost use Rattle.plcx_layout.specs.Suits.{Suits, ListSuits, PousSuit};
 ghost use Rattle.plcx_view.specs.Declared.{class_of, mark_of};
 ghost use Rattle.plcx_layout.specs.Leaves.{leaf_by, standard_leaves, lists_at, type_leaves, variable_leaves, list_leaves, program_leaves};
 ghost use Rattle.plcx_layout.specs.Leaves as specs;
@@ -23,7 +27,8 @@ struct Marks {
 
 /// A variable's initial value; one that isn't given is the type's default.
 fn initial_of(ty: Ty, initial: Option<Val>) -> Val
-    ensures { result.n ≡ initial_value initial }
+    ensures number { result.n ≡ initial_value initial }
+    ensures typed { InitialSuits (Plain ty) initial → result.ty ≡ ty }
 {
     match initial {
         None => default_of(ty),
@@ -62,7 +67,8 @@ fn leaf(
     initial: Val,
     marks: Marks,
 ) -> Result<Leaf, NoMemory>
-    ensures { IfOk result (λ leaf. meant leaf ≡ leaf_by (name ∷ spelled within.now) ty initial.n marks.retained marks.constant) }
+    ensures typed { IfOk result (λ leaf. initial.ty ≡ ty → BeginsTyped leaf) }
+    ensures shown { IfOk result (λ leaf. meant leaf ≡ leaf_by (name ∷ spelled within.now) ty initial.n marks.retained marks.constant) }
 {
     let path = path_to(alloc, within, name)?;
     let outside = is_outside(within, &path);
@@ -83,7 +89,8 @@ fn pin_leaf(
     retained: bool,
     pin: &StdPin,
 ) -> Result<Leaf, NoMemory>
-    ensures { IfOk result (λ leaf. meant leaf ≡ leaf_by ((shown pin.now).name ∷ spelled within.now) (shown pin.now).ty (pos 0) retained false) }
+    ensures typed { IfOk result BeginsTyped }
+    ensures shown { IfOk result (λ leaf. meant leaf ≡ leaf_by ((shown pin.now).name ∷ spelled within.now) (shown pin.now).ty (pos 0) retained false) }
 {
     let Ok(name) = Ident::new(alloc, pin.name.as_bytes()) else {
         return Err(NoMemory);
@@ -104,7 +111,8 @@ fn with_standard(
     retained: bool,
     kind: StdKind,
 ) -> Result<Vec<Leaf>, NoMemory>
-    ensures { IfOk result (λ more. all_meant more.items ≡ all_meant leaves.items ++ standard_leaves levels (spelled within.now) retained kind) }
+    ensures typed { IfOk result (λ more. Each BeginsTyped leaves.items → Each BeginsTyped more.items) }
+    ensures shown { IfOk result (λ more. all_meant more.items ≡ all_meant leaves.items ++ standard_leaves levels (spelled within.now) retained kind) }
 {
     let mut more = leaves;
     if levels == 0 {
@@ -166,7 +174,8 @@ fn with_variable(
     marks: Marks,
     variable: &Variable,
 ) -> Result<Vec<Leaf>, NoMemory>
-    ensures { IfOk result (λ more. all_meant more.items ≡ all_meant leaves.items ++ type_leaves levels (specs.leaves levels pous.now) pous.now (variable.now.name ∷ spelled within.now) marks.retained marks.constant variable.now.initial variable.now.ty) }
+    ensures typed { IfOk result (λ more. PousSuit pous.now → Suits variable.now → Each BeginsTyped leaves.items → Each BeginsTyped more.items) }
+    ensures shown { IfOk result (λ more. all_meant more.items ≡ all_meant leaves.items ++ type_leaves levels (specs.leaves levels pous.now) pous.now (variable.now.name ∷ spelled within.now) marks.retained marks.constant variable.now.initial variable.now.ty) }
 {
     let mut more = leaves;
     match variable.ty {
@@ -212,7 +221,8 @@ fn with_list(
     retained: bool,
     list: &VarList,
 ) -> Result<Vec<Leaf>, NoMemory>
-    ensures { IfOk result (λ more. all_meant more.items ≡ all_meant leaves.items ++ list_leaves levels (specs.leaves levels pous.now) pous.now (spelled within.now) retained list.now) }
+    ensures typed { IfOk result (λ more. PousSuit pous.now → ListSuits list.now → Each BeginsTyped leaves.items → Each BeginsTyped more.items) }
+    ensures shown { IfOk result (λ more. all_meant more.items ≡ all_meant leaves.items ++ list_leaves levels (specs.leaves levels pous.now) pous.now (spelled within.now) retained list.now) }
 {
     let mut more = leaves;
     if !is_kept(list.class) {
@@ -237,7 +247,8 @@ fn with_lists(
     retained: bool,
     lists: &[VarList],
 ) -> Result<Vec<Leaf>, NoMemory>
-    ensures { IfOk result (λ more. all_meant more.items ≡ all_meant leaves.items ++ specs.leaves levels pous.now (spelled within.now) retained lists.now) }
+    ensures typed { IfOk result (λ more. PousSuit pous.now → Each ListSuits lists.now → Each BeginsTyped leaves.items → Each BeginsTyped more.items) }
+    ensures shown { IfOk result (λ more. all_meant more.items ≡ all_meant leaves.items ++ specs.leaves levels pous.now (spelled within.now) retained lists.now) }
 {
     let mut more = leaves;
     if levels == 0 {
@@ -251,7 +262,8 @@ fn with_lists(
 
 /// The leaves of a program, which stands among these POUs.
 pub fn program_leaves(alloc: Global, pous: &[Pou], program: &Pou) -> Result<Vec<Leaf>, NoMemory>
-    ensures { IfOk result (λ leaves. all_meant leaves.items ≡ program_leaves pous.now program.now) }
+    ensures typed { IfOk result (λ leaves. PousSuit pous.now → Each ListSuits program.now.lists → Each BeginsTyped leaves.items) }
+    ensures leaves { IfOk result (λ leaves. all_meant leaves.items ≡ program_leaves pous.now program.now) }
 {
     Ok(with_lists(
         alloc,
