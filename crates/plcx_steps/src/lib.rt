@@ -1,0 +1,12 @@
+//! Prepared programs, and the scan of one over the numbers of its leaves, memories and wires.
+#![tactic(auto)]
+
+mod acting;
+mod program;
+mod state;
+
+pub use acting::Spot;
+pub use program::{
+    Action, Argument, Body, Instance, Jump, Network, Operand, Program, Source, Step,
+};
+pub use state::{State, Stop, Watch};
