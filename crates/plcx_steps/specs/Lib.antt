@@ -2,3 +2,4 @@ pub mod Numbered
 pub mod Sound
 pub mod Typed
 pub mod Acting
+pub mod Running

@@ -3,10 +3,12 @@
 
 mod acting;
 mod program;
+mod running;
 mod state;
 
 pub use acting::Spot;
 pub use program::{
     Action, Argument, Body, Instance, Jump, Network, Operand, Program, Source, Step,
 };
+pub use running::scan;
 pub use state::{State, Stop, Watch};

@@ -32,12 +32,24 @@ pub struct Argument {
 #[derive(Clone, Copy, Debug)]
 pub enum Action {
     /// A wire gets a value.
-    Fix { source: Source, wire: usize },
+    Fix {
+        source: Source,
+        wire: usize,
+    },
     /// A variable gets a value.
-    Write { to: Operand, source: Source },
+    Write {
+        to: Operand,
+        source: Source,
+    },
     /// A memory gets a value.
-    Keep { memory: u32, source: Source },
-    Not { source: Source, wire: usize },
+    Keep {
+        memory: u32,
+        source: Source,
+    },
+    Not {
+        source: Source,
+        wire: usize,
+    },
     And {
         left: Source,
         right: Source,
@@ -57,7 +69,10 @@ pub enum Action {
         wire: usize,
     },
     /// A standard block, whose leaves stand from this one on.
-    Standard { kind: StdKind, leaves: u32 },
+    Standard {
+        kind: StdKind,
+        leaves: u32,
+    },
 }
 
 /// One thing that an element does.
