@@ -3,3 +3,4 @@ pub mod Sound
 pub mod Typed
 pub mod Acting
 pub mod Running
+pub mod Watches

@@ -5,6 +5,7 @@ mod acting;
 mod program;
 mod running;
 mod state;
+mod watching;
 
 pub use acting::Spot;
 pub use program::{
@@ -12,3 +13,4 @@ pub use program::{
 };
 pub use running::scan;
 pub use state::{State, Stop, Watch};
+pub use watching::{LogWatch, Silent, Told};
