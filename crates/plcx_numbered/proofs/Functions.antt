@@ -101,7 +101,7 @@ module _ {M : Type 0} (whole : Shape) (apart : IsApart whole) (tell : M → Hear
     spare_stays = b.spare_stays ∙ a.spare_stays;
   }
 
-  spare_other : (own : List Value) (id : ℕ) (pin : List ℕ) (w : Value) → IsWire c id pin → number_at (set own (c.num.wire id pin) w) c.num.spare ≡ number_at own c.num.spare
+  pub spare_other : (own : List Value) (id : ℕ) (pin : List ℕ) (w : Value) → IsWire c id pin → number_at (set own (c.num.wire id pin) w) c.num.spare ≡ number_at own c.num.spare
   spare_other own id pin w h =
       let low = below whole apart tell begun enter c pins_apart spare site here lies same_in_outs id pin h in
       other_wire whole tell enter c spare site here lies own (c.num.wire id pin) c.num.spare w (λ e. let e' : c.num.spare ≡ c.num.wire id pin = e in omega arith)

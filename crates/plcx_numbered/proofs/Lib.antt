@@ -4,3 +4,6 @@ pub mod Alikes
 pub mod Links
 pub mod Simple
 pub mod Functions
+pub mod Blocks
+pub mod Calling
+pub mod Elements

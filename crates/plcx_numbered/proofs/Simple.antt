@@ -95,7 +95,7 @@ module _ {M : Type 0} (whole : Shape) (apart : IsApart whole) (tell : M → Hear
   kept d n id v w h e a = agree_keep whole apart tell begun d n site.path (AtEdge id) (here.at.memories + c.num.memory (AtEdge id)) v w (lies.cells (c.num.memory (AtEdge id)) [] (AtEdge id) h) e a
 
   -- a contact, where the link's source reads so as long as outputs and the first spare wire stay
-  contact_alike : (how : Contacting) (id : ℕ) → RightContact c id how → IsWire c id [] → (o : diagram.Operand) → RightOperand c o → (l : ℤ) (s : Source) (d : DiagramState) (n : Numbered M) (ws : Wires) (own : List Value)
+  pub contact_alike : (how : Contacting) (id : ℕ) → RightContact c id how → IsWire c id [] → (o : diagram.Operand) → RightOperand c o → (l : ℤ) (s : Source) (d : DiagramState) (n : Numbered M) (ws : Wires) (own : List Value)
       → Agree whole tell begun d n → SameWires c.pins ws own → c.num.spare + 3 ≤ length own
       → ((later : List Value) → SameWires c.pins ws later → number_at later c.num.spare ≡ number_at own c.num.spare → read here (cells_of n later) s ≡ l)
       → Alike whole tell begun (λ ws' f. InFrame c ws' (length own) f)
@@ -153,7 +153,7 @@ module _ {M : Type 0} (whole : Shape) (apart : IsApart whole) (tell : M → Hear
 
   -- ---- coils
   -- a coil whose wire has its link's value
-  coil_alike : (how : Coiling) (x : List ℕ) → IsOperand c x → (id : ℕ) → RightCoil c id how → IsWire c id [] → (l : ℤ) (d : DiagramState) (n : Numbered M) (ws : Wires) (own : List Value)
+  pub coil_alike : (how : Coiling) (x : List ℕ) → IsOperand c x → (id : ℕ) → RightCoil c id how → IsWire c id [] → (l : ℤ) (d : DiagramState) (n : Numbered M) (ws : Wires) (own : List Value)
       → Agree whole tell begun d n → SameWires c.pins ws own → ws id [] ≡ l → c.num.spare + 2 ≤ length own
       → Alike whole tell begun (λ (u : Unit {0}) f. InFrame c ws (length own) f) (Ended (coil_does how (leaf_named (variables c) site x) site.path id l d) tt)
       (steps_do tell enter here (coil_steps how (c.num.operand x) (c.num.memory (AtEdge id)) (c.num.wire id []) (c.num.spare + 1)) n (frame 0 own))
