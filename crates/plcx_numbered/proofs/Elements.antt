@@ -1,8 +1,9 @@
 -- The elements of a network: their steps do over numbers what they do over paths.
-use Rattle.std.proofs.Common.{◌≡◌, ℕ, zero, suc, ◌+◌, ◌<◌, ◌≤◌, ℤ, pos, Bool, true, false, List, [], ◌∷◌, ◌++◌, length, set, map, Some, refl, sym, ap, ap₂, ◌∙◌, subst, arith}
+use Rattle.std.proofs.Common.{◌≡◌, ℕ, zero, suc, ◌+◌, ◌<◌, ◌≤◌, ℤ, pos, Bool, true, false, List, [], ◌∷◌, ◌++◌, ◌-◌, length, length-append, set, map, take, drop, Some, refl, sym, ap, ap₂, ◌∙◌, subst, arith}
 use Rattle.std.specs.Prelude.{slice_get, slice_range, codes, if◌then◌else◌}
 use Rattle.std.specs.List.{fold}
-use Rattle.std.proofs.lemmas.List.{length-set}
+use Rattle.std.proofs.lemmas.List.{length-set, drop-drop}
+use Rattle.std.proofs.lemmas.Option.{same_Some}
 use Rattle.plcx_types.specs.Name.{in_lower_case}
 use Rattle.plcx_types.specs.Lists.{Each}
 use Rattle.plcx_types.specs.Value.{Value}
@@ -24,6 +25,36 @@ use Rattle.plcx_numbered.proofs.Alikes.{both_end, alike_then, alike_as, alike_fr
 use Rattle.plcx_numbered.proofs.Simple.{InFrame, fixed_self, operand_value, wired, behind_link, out_alike, contact_alike, coil_alike}
 use Rattle.plcx_numbered.proofs.Functions.{function_alike}
 use Rattle.plcx_numbered.proofs.Calling.{StepsStandard, CallsAlike, call_alike}
+
+-- the parts of what stands in a list stand there one behind the other
+take_front : {A : Type 0} (xs ys zs : List A) (k m : ℕ) → k ≡ length xs + m → take k zs ≡ xs ++ ys → take (length xs) zs ≡ xs
+take_front [] ys zs k m e h = refl
+take_front (x ∷ xs) ys [] k m e h = absurd (nothing k h)
+  where
+    nothing : (k : ℕ) → take {A = _} k [] ≡ x ∷ (xs ++ ys) → ⊥
+    nothing zero h = cc
+    nothing (suc k) h = cc
+take_front (x ∷ xs) ys (z ∷ zs) zero m e h = absurd (omega (arith, e))
+take_front (x ∷ xs) ys (z ∷ zs) (suc k) m e h = ap₂ (λ w ws. w ∷ ws) (same_Some z x (ap (λ l. slice_get l 0) h)) (take_front xs ys zs k m (omega arith) (ap (drop 1) h))
+
+drop_front : {A : Type 0} (xs ys zs : List A) (k m : ℕ) → k ≡ length xs + m → take k zs ≡ xs ++ ys → take m (drop (length xs) zs) ≡ ys
+drop_front [] ys zs k m e h = ap (λ j. take j zs) (let f : m ≡ k = omega arith in f) ∙ h
+drop_front (x ∷ xs) ys [] k m e h = absurd (nothing k h)
+  where
+    nothing : (k : ℕ) → take {A = _} k [] ≡ x ∷ (xs ++ ys) → ⊥
+    nothing zero h = cc
+    nothing (suc k) h = cc
+drop_front (x ∷ xs) ys (z ∷ zs) zero m e h = absurd (omega (arith, e))
+drop_front (x ∷ xs) ys (z ∷ zs) (suc k) m e h = drop_front xs ys zs k m (omega arith) (ap (drop 1) h)
+
+at_parts : {A : Type 0} (whole : List A) (i : ℕ) (xs ys : List A) → HasAt whole i (xs ++ ys) → HasAt whole i xs × HasAt whole (i + length xs) ys
+at_parts whole i xs ys h =
+    let l = length-append xs ys in
+    let e : i + length (xs ++ ys) - i ≡ length xs + length ys = omega arith in
+    (
+      ap (λ k. take k (drop i whole)) (let f : i + length xs - i ≡ length xs = omega arith in f) ∙ take_front xs ys (drop i whole) _ (length ys) e h,
+      ap₂ (λ k zs. take k zs) (let f : i + length xs + length ys - (i + length xs) ≡ length ys = omega arith in f) (sym (drop-drop (length xs) i whole)) ∙ drop_front xs ys (drop i whole) _ (length ys) e h,
+    )
 
 module _ {M : Type 0} (whole : Shape) (apart : IsApart whole) (tell : M → Heard → M) (begun : M) (enter : Entered M) (c : Place) (pins_apart : AreApart c.pins) (spare : length c.pins ≤ c.num.spare) (site : Site) (here : Here)
     (lies : Lies whole c.plan.shape site.path here.at) (same_in_outs : SameInOuts whole c.plan.in_outs site.bound here.in_outs)
@@ -140,3 +171,14 @@ module _ {M : Type 0} (whole : Shape) (apart : IsApart whole) (tell : M → Hear
               (both_end (agree_hear whole apart tell begun d' n'' (outputs_heard here.pou e.id 0 (ports e.kind) ws') s.is.0) (record { skip = refl; wires = s.is.1.wires; width_is = s.is.1.width_is }))
           by_outcome (Stopped r n') s = absurd s.is
           by_outcome Stuck s = absurd s.is
+
+  pub elements_alike : (es : List DiagramElement) (i j : ℕ) → Each (RightElement c) es → HasAt here.program.arguments.items i (elements_arguments c.num es) → HasAt here.program.bindings.items j (elements_bindings c.num es)
+      → (d : DiagramState) (ws : Wires) (n : Numbered M) (f : Frame) → Agree whole tell begun d n → InFrame c ws c.width f
+      → Alike whole tell begun (λ ws' f'. InFrame c ws' c.width f') (elements_do es setting d ws) (steps_do tell enter here (elements_steps c.num i j es) n f)
+  elements_alike [] i j h args binds d ws n f a same = both_end a same
+  elements_alike (e ∷ es) i j h args binds d ws n f a same =
+      let A = at_parts here.program.arguments.items i (kind_arguments c.num e.kind) (elements_arguments c.num es) args in
+      let B = at_parts here.program.bindings.items j (kind_bindings c.num e.kind) (elements_bindings c.num es) binds in
+      alike_as _ _ (steps_append tell enter here (element_steps c.num i j e) (elements_steps c.num (i + length (kind_arguments c.num e.kind)) (j + length (kind_bindings c.num e.kind)) es) n f)
+      (alike_then _ _ _ _ (element_alike e i j h.0 A.0 B.0 d ws n f a same)
+      (λ d' ws' n' f' a' same'. elements_alike es (i + length (kind_arguments c.num e.kind)) (j + length (kind_bindings c.num e.kind)) h.1 A.1 B.1 d' ws' n' f' a' same'))

@@ -7,3 +7,4 @@ pub mod Functions
 pub mod Blocks
 pub mod Calling
 pub mod Elements
+pub mod Bodies

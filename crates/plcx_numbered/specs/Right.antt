@@ -1,5 +1,6 @@
 -- When the numbers that steps use are right: what each has to be the number of, where an element mentions it.
-use Rattle.std.specs.Prelude.{◌≡◌, ℕ, ◌+◌, ◌<◌, ◌≤◌, Bool, true, false, List, [], ◌∷◌, Option, Some, None, length, slice_get, slice_range, codes}
+use Rattle.std.specs.Prelude.{◌≡◌, ℕ, ◌+◌, ◌<◌, ◌≤◌, pos, Bool, true, false, List, [], ◌∷◌, Option, Some, None, length, slice_get, slice_range, codes}
+use Rattle.std.specs.List.{AllZip}
 use Rattle.plcx_types.specs.Name.{in_lower_case}
 use Rattle.plcx_types.specs.Lists.{Each}
 use Rattle.plcx_std.specs.declared.kind.StdKind.{StdKind}
@@ -8,13 +9,18 @@ use Rattle.plcx_std.specs.Pins.{Pin as Leaf', pins}
 use Rattle.plcx_meaning.specs.Base.{Path, Memory, AtEdge, AtOutput}
 use Rattle.plcx_meaning.specs.Layout.{Variable, variables_of, variable_named}
 use Rattle.plcx_meaning.specs.Diagram as diagram
-use Rattle.plcx_meaning.specs.Diagram.{Link, Own, Output, Contacting, RisingContact, FallingContact, Coiling, RisingCoil, FallingCoil, Enable, has_eno, InputPin, InOutPin, OutputPin, ElementKind, Still, In, Out, Contact, Coil, Pass, Label, Jump, Return, Function, Call, Port, ports, DiagramElement, Project, block_named}
-use Rattle.plcx_meaning.specs.Evaluate.{is_in_out, bind}
+use Rattle.plcx_meaning.specs.Diagram.{Link, Own, Output, Contacting, RisingContact, FallingContact, Coiling, RisingCoil, FallingCoil, Enable, has_eno, InputPin, InOutPin, OutputPin, ElementKind, Still, In, Out, Contact, Coil, Pass, Label, Jump, Return, Function, Call, Port, ports, DiagramElement, Project, has_jump, block_named}
+use Rattle.plcx_meaning.specs.Evaluate.{is_in_out, bind, leads_to, place_named}
 use Rattle.plcx_steps.specs.declared.program.Operand.{Operand}
 use Rattle.plcx_steps.specs.declared.program.Operand.TheVariants.{Leaf, InOut}
 use Rattle.plcx_steps.specs.declared.program.Instance.{Instance}
-use Rattle.plcx_numbered.specs.Agreeing.{Pin, Shape, plain_memory, Lies}
-use Rattle.plcx_numbered.specs.Prepared.{Callee, Block, User, Numbering, bound_variable, spares}
+use Rattle.plcx_steps.specs.declared.program.Jump.{Jump as Leap}
+use Rattle.plcx_steps.specs.declared.program.Network.{Network}
+use Rattle.plcx_steps.specs.declared.program.Body.{Body}
+use Rattle.plcx_steps.specs.declared.program.Program.{Program}
+use Rattle.plcx_steps.specs.Numbered.{number_at}
+use Rattle.plcx_numbered.specs.Agreeing.{AreApart, Pin, Shape, plain_memory, Lies}
+use Rattle.plcx_numbered.specs.Prepared.{Callee, Block, User, Numbering, bound_variable, spares, elements_steps, elements_arguments, elements_bindings}
 
 -- a POU of the project, how many levels of blocks are below it at most, the shape of its instances, and the names of its in-outs without case
 pub record Plan : Type 0 where
@@ -148,3 +154,46 @@ pub record RightElement (c : Place) (e : DiagramElement) : Type 0 where
 -- a part stands in a list from a place on
 abbrev pub HasAt : {A : Type 0} → List A → ℕ → List A → Type 0
 HasAt whole i part = slice_range whole i (i + length part) ≡ part
+
+-- ---- bodies
+
+-- the jumps of a network: where each leads, and the element that decides
+abbrev pub lead : ℕ → Option ℕ → List (ℕ × ℕ) → List (ℕ × ℕ)
+lead id None rest = rest
+lead id (Some n) rest = (n, id) ∷ rest
+
+abbrev pub leaps : List (List DiagramElement) → List DiagramElement → List (ℕ × ℕ)
+leaps networks [] = []
+leaps networks (e ∷ es) = lead e.id (leads_to networks e.kind) (leaps networks es)
+
+abbrev pub IsLeap : Place → (ℕ × ℕ) → Leap → Type 0
+IsLeap c l j = (l.0 ≡ j.target) × IsWire c l.1 [] × (c.num.wire l.1 [] ≡ j.wire)
+
+abbrev pub place : Project → List Plan → Plan → Numbering → List Pin → ℕ → Place
+place project plans plan num pins width = record { project = project; plans = plans; plan = plan; num = num; pins = pins; width = width }
+
+-- a network
+pub record IsNetwork (program : Program) (project : Project) (plans : List Plan) (plan : Plan) (es : List DiagramElement) (network : Network) : Type 0 where
+  pub num : Numbering
+  pub pins : List Pin
+  pub apart : AreApart pins
+  pub spare : length pins ≤ num.spare
+  pub room : length pins ≤ length network.wires.items
+  pub zeros : (w : ℕ) → number_at network.wires.items w ≡ pos 0
+  pub argument : ℕ
+  pub binding : ℕ
+  pub steps : network.steps.items ≡ elements_steps num argument binding es
+  pub arguments : HasAt program.arguments.items argument (elements_arguments num es)
+  pub bindings : HasAt program.bindings.items binding (elements_bindings num es)
+  pub right : Each (RightElement (place project plans plan num pins (length network.wires.items))) es
+  pub jumps : AllZip (IsLeap (place project plans plan num pins (length network.wires.items))) (leaps plan.pou.networks es) network.jumps.items
+
+-- a body
+pub record IsBody (program : Program) (project : Project) (plans : List Plan) (k : ℕ) (plan : Plan) (body : Body) : Type 0 where
+  pub name : place_named plan.pou.name project ≡ k
+  pub jumps : has_jump plan.pou.networks ≡ body.jumps
+  pub networks : AllZip (IsNetwork program project plans plan) plan.pou.networks body.networks.items
+
+-- each plan has its body, at the same place
+pub record IsPrepared (project : Project) (plans : List Plan) (program : Program) : Type 0 where
+  pub each : (k : ℕ) (plan : Plan) → slice_get plans k ≡ Some plan → (body : Body) × (slice_get program.bodies.items k ≡ Some body) × IsBody program project plans k plan body
