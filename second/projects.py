@@ -417,6 +417,14 @@ class Generator:
 
     # ------------------------------------------------------------ changes
 
+    def lead(self, p, wire, texts=None):
+        """The wire, which comes from a new literal with one of these texts, or where there are none from any source of the body."""
+        if texts:
+            wire.to, wire.formal = self.new(p, 'inVariable', text=self.r.choice(texts)), ''
+        else:
+            wire.to, wire.formal, _ = self.r.choice(p.sources)
+        return wire
+
     def all_wires(self, e):
         """All connections of an element."""
         return [w for l in [e.wires] + [q.wires for q in e.ins + e.inouts] for w in l]
@@ -472,7 +480,7 @@ class Generator:
             return False
         p, w = found
         if p.sources and self.chance(0.75):
-            w.to, w.formal, _ = self.r.choice(p.sources)
+            self.lead(p, w)
         else:
             w.to = self.r.choice([e for e in p.elements if e.kind != 'vendorElement'] or [1])
         return True
@@ -522,7 +530,7 @@ class Generator:
         p, h = found
         h.wires.append(E(h.wires[0]))
         if p.sources and self.chance(0.6):
-            h.wires[-1].to, h.wires[-1].formal, _ = self.r.choice(p.sources)
+            self.lead(p, h.wires[-1])
         return True
 
     def bad_no_wire(self):
@@ -636,7 +644,7 @@ class Generator:
         elif how < 0.7:
             self.r.choice([i, s] if isinstance(s, E) else [i]).update(self.r.choice([{'neg': True}, {'edge': 'rising'}, {'store': 'set'}]))
         elif p.sources:
-            i.wires[0].to, i.wires[0].formal, _ = self.r.choice(p.sources)
+            self.lead(p, i.wires[0])
         return True
 
     def bad_connector(self):
@@ -708,7 +716,7 @@ class Generator:
                 s = self.r.choice(own)
                 i.wires = [E(to=s[0], formal=s[1])]
             else:
-                i.wires = [E(to=self.new(p, 'inVariable', text=self.r.choice(['0', '1', '5', '-1'])), formal='')]
+                i.wires = [self.lead(p, E(), ['0', '1', '5', '-1'])]
         return True
 
     def bad_declared_type(self):
@@ -895,9 +903,9 @@ class Generator:
         p, h = self.r.choice(found)
         h.wires.append(E(h.wires[0]))
         if self.chance(0.3) and p.sources:
-            h.wires[-1].to, h.wires[-1].formal, _ = self.r.choice(p.sources)
+            self.lead(p, h.wires[-1])
         elif self.chance(0.3):
-            h.wires[-1].to, h.wires[-1].formal = self.new(p, 'inVariable', text=self.r.choice(['0', '1', '2'])), ''
+            self.lead(p, h.wires[-1], ['0', '1', '2'])
         return True
 
     def bad_lone(self):
@@ -907,10 +915,8 @@ class Generator:
             return False
         p, i = found
         i.wires[:] = i.wires[:1]
-        if p.sources and self.chance(0.5):
-            i.wires[0].to, i.wires[0].formal, _ = self.r.choice(p.sources)
-        else:
-            i.wires[0].to, i.wires[0].formal = self.new(p, 'inVariable', text=self.r.choice(['1', '0', '2147483647', '2147483648', '-2147483649', 'TRUE', 'WORD#1'])), ''
+        any_source = p.sources and self.chance(0.5)
+        self.lead(p, i.wires[0], None if any_source else ['1', '0', '2147483647', '2147483648', '-2147483649', 'TRUE', 'WORD#1'])
         return True
 
     def bad_time_literal(self):
@@ -918,7 +924,7 @@ class Generator:
         if not found:
             return False
         p, i = found
-        i.wires[:] = [E(to=self.new(p, 'inVariable', text=self.r.choice(['0', '1', '500'])), formal='')]
+        i.wires[:] = [self.lead(p, E(), ['0', '1', '500'])]
         return True
 
     def bad_rail(self):
@@ -929,11 +935,7 @@ class Generator:
         p = self.r.choice(ladders)
         e = self.new(p, 'rightPowerRail')
         for _ in range(self.r.choice([1, 1, 2])):
-            if self.chance(0.2):
-                e.wires.append(E(to=self.new(p, 'inVariable', text=self.r.choice(['0', '1', '2', 'TRUE'])), formal=''))
-            else:
-                s = self.r.choice(p.sources)
-                e.wires.append(E(to=s[0], formal=s[1]))
+            e.wires.append(self.lead(p, E(), ['0', '1', '2', 'TRUE'] if self.chance(0.2) else None))
         return True
 
     # ------------------------------------------------------------ the file

@@ -503,29 +503,24 @@ class Rules:
                     yield p, e
                     break
 
-    def rule_30(self):
+    def doubled_or_missing(self, named, naming):
+        """Elements of the first kind whose name stood before, and those of the other kind whose name none of them has."""
         for p in self.pous:
             seen = set()
-            names = {up(e.name) for e in p.body if e.kind == 'connector'}
+            names = {up(e.name) for e in p.body if e.kind == named}
             for e in p.body:
-                if e.kind == 'connector':
+                if e.kind == named:
                     if up(e.name) in seen:
                         yield p, e
                     seen.add(up(e.name))
-                if e.kind == 'continuation' and up(e.name) not in names:
+                if e.kind == naming and up(e.name) not in names:
                     yield p, e
 
+    def rule_30(self):
+        return self.doubled_or_missing('connector', 'continuation')
+
     def rule_31(self):
-        for p in self.pous:
-            seen = set()
-            names = {up(e.name) for e in p.body if e.kind == 'label'}
-            for e in p.body:
-                if e.kind == 'label':
-                    if up(e.name) in seen:
-                        yield p, e
-                    seen.add(up(e.name))
-                if e.kind == 'jump' and up(e.name) not in names:
-                    yield p, e
+        return self.doubled_or_missing('label', 'jump')
 
     def rule_32(self):
         for p, e in self.elements():

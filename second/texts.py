@@ -86,9 +86,14 @@ class Writer:
         self.p = p
         self.back = set()
         for e in p.body:
-            for k, s in scans.connections(p, e):
-                if (k, id(s)) in e.feedback:
-                    self.back.add(self.output_name(e, k, s))
+            if e.kind == 'continuation':
+                s = p.connectors[up(e.name)]
+                if (0, id(s)) in e.feedback:
+                    self.back.add((id(s), ''))
+            for k, wires in enumerate([i.wires for i in e.ins + e.inouts] if e.kind == 'block' else [e.wires]):
+                for c in wires:
+                    if (k, id(p.by_id[c.element])) in e.feedback:
+                        self.back.add((id(p.by_id[c.element]), self.pin_of(c)))
         memories, wires = [], []
         for e in p.body:
             if e.mods.edge != 'none' and e.kind in ('contact', 'coil'):
@@ -159,13 +164,10 @@ class Writer:
             r += [(self.spelt(e, n), e.callee.outs[n]) for n in names if n != 'ENO']
         return r
 
-    def output_name(self, e, k, s):
-        """The wire that the connection of pin k of e from s reads."""
-        if s.kind != 'block':
-            return (id(s), '')
-        lists = [i.wires for i in e.ins + e.inouts] if e.kind == 'block' else [e.wires]
-        c = next(c for c in lists[k] if self.p.by_id[c.element] is s)
-        return (id(s), self.spelt(s, self.rules.outs_named(s)[self.rules.output(s, c.formal)]))
+    def pin_of(self, c):
+        """The pin of the output that a connection reads, '' where its element is no block."""
+        s = self.p.by_id[c.element]
+        return self.spelt(s, self.rules.outs_named(s)[self.rules.output(s, c.formal)]) if s.kind == 'block' else ''
 
     def name(self, text):
         """A variable or member, spelt as declared."""
@@ -188,7 +190,7 @@ class Writer:
         if s.kind == 'inVariable' and s.held[0] == 'literal':
             x = X(shown(ty, s.held[1][-1]))
             return no(x) if s.mods.negated else x
-        pin = self.spelt(s, self.rules.outs_named(s)[self.rules.output(s, c.formal)]) if s.kind == 'block' else ''
+        pin = self.pin_of(c)
         back = (k, id(s)) in e.feedback
         return X('PLCX_%s%d%s' % ('F' if back else 'W', s.id, '_' + pin if pin else ''))
 

@@ -1,6 +1,5 @@
 -- The verdict on a file, pass by pass.
 use Rattle.std.proofs.Common.{◌≡◌, ◌∙◌, ℕ, List, Some, None, sym, ap, subst, refl}
-use Rattle.plcx_types.specs.Lists.{Each}
 use Rattle.plcx_xml.specs.Faults.{Fails}
 use Rattle.plcx_xml.specs.StandsForTree.{IsTreeOf}
 use Rattle.plcx_xml.specs.declared.error.XmlError.{XmlError}
@@ -13,29 +12,16 @@ use Rattle.plcx_model.specs.declared.project.Project as model'
 use Rattle.plcx_model.specs.Sound.{Sound}
 use Rattle.plcx_profile.specs.Profile.{IsElement, ProfileVerdict, StandsForProject, StandsForRoot, RefusesRoot, project_in}
 use Rattle.plcx_profile.specs.declared.error.ProfileError.TheVariants as error
-use Rattle.plcx_first_model.specs.Shape.{IsFirstShape}
-use Rattle.plcx_first_model.specs.declared.project.Project.{Project}
-use Rattle.plcx_first_form.specs.Form.{first_form_of}
+use Rattle.plcx_check.specs.declared.checked.Checked.{Checked}
+use Rattle.plcx_view.specs.Diagrams.{diagrams_of}
 use Rattle.plcx_command.specs.Answer.{Answer, output, broken_answer, ok_answer}
-use Rattle.plcx_rules.specs.CheckVerdict.{CheckVerdict}
-use Rattle.plcx_command.specs.FirstForm.{Form, IsFirst, IsPlannedAs, IsTextOf}
-use Rattle.plcx_command.specs.JudgementOf.{IsJudgement, IsFault, IsJudgementOfProject, IsJudgementOfElement, OfProfile, OfProject, IsJudgementOfTree}
-use Rattle.plcx_command.specs.Says as says
-use Rattle.plcx_command.specs.Says.{Judged, checked, compiled, IsProjectAnswer}
+use Rattle.plcx_command.specs.Compiled.{IsTextOf}
+use Rattle.plcx_command.specs.JudgementOf.{IsChecked, IsJudgement, IsFault, IsJudgementOfProject, IsJudgementOfElement, OfProfile, OfProject, IsJudgementOfTree}
+use Rattle.plcx_command.specs.Says.{Judged, checked, compiled}
 use Rattle.plcx_command.specs.Verdict as verdict
-use Rattle.plcx_command.specs.Verdict.{Breaks, Keeps, InTree, InProfile, InProject, Refused, InOtherForm, InForm}
+use Rattle.plcx_command.specs.Verdict.{Breaks, Keeps, InTree, InProfile, InProject, Refused, Passed}
 use Rattle.plcx_command.specs.declared.judging.Judgement.{Judgement}
 use Rattle.plcx_command.specs.declared.judging.Judgement.TheVariants.{Accepted, Broken}
-use Rattle.plcx_command.specs.declared.judging.Accepted as code
-
-pub no_form : (project : model'.Project) → first_form_of project ≡ None → IsFirst project → ⊥
-no_form project none first = let both : None ≡ Some first.first = sym none ∙ first.stands in cc
-
-pub no_shape : (project : model'.Project) (form : Project) → first_form_of project ≡ Some form → (IsFirstShape form → ⊥) → IsFirst project → ⊥
-no_shape project form stands none first =
-    let both : Some first.first ≡ Some form = sym first.stands ∙ stands in
-    let same : first.first ≡ form = cc in
-    none (subst IsFirstShape same first.shape)
 
 pub root_stands : (n : Node-F Node Element) (project : model'.Project) (j : Judgement) → StandsForRoot n project → IsJudgementOfProject project j → IsJudgementOfTree n j
 root_stands (Node-F.Text t) project j s h = absurd s
@@ -54,7 +40,7 @@ is_element tree root is = rw (is, node.outs-Element root) tt
 
 judged-project : (bytes : List ℕ) (root : Element) (j : Judgement) → IsTreeOf bytes root → ProfileVerdict root None → IsJudgementOfProject (project_in root) j → IsJudgement bytes j
 judged-project bytes root (Accepted c) t none h =
-    record { root = root; tree = t; profile = none; stands = h.0; checks = h.1 }
+    (record { root = root; tree = t; profile = none; stands = h.0; checks = h.1.verdict }, h.1)
 judged-project bytes root (Broken b) t none h = InProject root t none h
 
 judged-element : (bytes : List ℕ) (root : Element) (j : Judgement) → IsTreeOf bytes root → IsJudgementOfElement root j → IsJudgement bytes j
@@ -69,20 +55,20 @@ faulted bytes e (Accepted c) f h = absurd h
 faulted bytes e (Broken b) f h = InTree e f h
 
 -- what is answered to bytes that are refused, and to such that are accepted
-pub refused : (form : Form) (bytes : List ℕ) (next : Answer → Type 0) (b : model.Broken) (a : Answer) → Breaks bytes b → a ≡ broken_answer b → Judged form bytes next a
-refused form bytes next b a h e = record { verdict = verdict.Broken b; judged = Refused h; answers = e }
+pub refused : (bytes : List ℕ) (next : Answer → Type 0) (b : model.Broken) (a : Answer) → Breaks bytes b → a ≡ broken_answer b → Judged bytes next a
+refused bytes next b a h e = record { verdict = verdict.Broken b; judged = Refused h; answers = e }
 
 pub accepted : (bytes : List ℕ) (project : model'.Project) (a : Answer) → Keeps bytes project → a ≡ ok_answer → checked bytes a
-accepted bytes project a h e = record { verdict = verdict.Accepted; judged = InForm project h tt; answers = e }
+accepted bytes project a h e = record { verdict = verdict.Accepted; judged = Passed project h; answers = e }
 
-pub answered : (bytes : List ℕ) (file : model'.Project) (a : Answer) → Keeps bytes file → IsProjectAnswer file a → compiled bytes a
-answered bytes file a h (says.InForm project text stands is e first) = record {
+pub answered : (bytes : List ℕ) (c : Checked) (text : List ℕ) (a : Answer) → Keeps bytes c.project × IsChecked c → IsTextOf (diagrams_of c.project c.links c.types c.plan) text → a ≡ output text
+    → compiled bytes a
+answered bytes c text a (keeps, is) t e = record {
   verdict = verdict.Accepted;
-  judged = InForm file h first;
-  answers = record { text = text; compiled = record { file = file; keeps = h; project = project; stands = stands; text_of = is }; answer = e };
+  judged = Passed c.project keeps;
+  answers = record {
+    text = text;
+    compiled = record { project = c.project; keeps = keeps; links = c.links; types = c.types; plan = c.plan; checked = is; text_of = t };
+    answer = e;
+  };
 }
-answered bytes file a h (says.InOtherForm none e) = record { verdict = verdict.NotBuilt; judged = InOtherForm file h none; answers = e }
-
--- what a project gives, by what is found of it
-pub in_form : (file : model'.Project) (found : code.Accepted) (text : List ℕ) (a : Answer) → IsPlannedAs file found → IsTextOf found.project text → a ≡ output text → IsProjectAnswer file a
-in_form file found text a h t e = says.InForm found.project text h.stands t e (record { first = found.project; stands = h.stands; shape = (h.planned.pou, h.planned.one, h.planned.built) })

@@ -6,13 +6,12 @@ use Rattle.plcx_words.specs.Command.{Command, check, compile, simulate, run, ben
 use Rattle.plcx_model.specs.declared.broken.Broken as model
 use Rattle.plcx_types.specs.Limits.{max_file_bytes}
 use Rattle.plcx_command.specs.Answer.{Answer, output, refusal, ok_answer, ok_line, usage_answer, usage_line, read_answer, read_line, broken_answer, broken_line, memory_answer, memory_line, not_built_answer, not_built_line, write_line}
-use Rattle.plcx_command.specs.FirstForm.{Form, any_form, first_form}
 use Rattle.plcx_command.specs.Verdict as verdict
 use Rattle.plcx_command.specs.Verdict.{Verdict, IsVerdict, FileVerdict, TooLong, Within, at_byte}
 use Rattle.plcx_command.specs.Says.{Says, AfterRead, fault, too_long, whole, Judged, Answers, IsText, IsAccepting, long_answer}
 use Rattle.plcx_command.specs.Ends.{Ends, Change, Written, Gets, GetsFront, Unchanged, MaySay}
 use Rattle.plcx_command.specs.Headline as headline
-use Rattle.plcx_command.specs.Headline.{IsDefined, file_of, form_of, IsTold, IsJudged, is_to_come, IsNotBuilt, IsRefusal, CompilesExactly, ChecksExactly, RefusesUsage, RefusesBroken, RefusesNotBuilt, BlamesReads, BlamesWrites, TellsMemory, IsComplete}
+use Rattle.plcx_command.specs.Headline.{IsDefined, file_of, IsTold, IsJudged, is_to_come, IsRefusal, CompilesExactly, ChecksExactly, RefusesUsage, RefusesBroken, RefusesNotBuilt, BlamesReads, BlamesWrites, TellsMemory, IsComplete}
 use Rattle.plcx_command.specs.declared.status.Refused.{Refused}
 use Rattle.plcx_command.specs.declared.status.Refused.TheVariants as why'
 use Rattle.plcx_command.specs.declared.status.Status.{Status}
@@ -31,7 +30,6 @@ texts bytes why line t = let e = t.answer in cc
 -- the status of a verdict
 abbrev status_of : Verdict → Status
 status_of verdict.Accepted = status.Done
-status_of verdict.NotBuilt = status.NotBuilt
 status_of (verdict.Broken b) = status.Broken
 
 -- how an answer is written, if by a status that neither memory nor the outside made
@@ -75,90 +73,82 @@ by-verdict : (next : List ℕ → Answer → Type 0) → OnlyOutputs next → (b
     → Answers (next bytes) v a → IsDefined s → Written a s out err → s ≡ status_of v
 by-verdict next only bytes verdict.Accepted (output text) s out err n d w = output-done text s out err d w
 by-verdict next only bytes verdict.Accepted (refusal why line) s out err n d w = absurd (only bytes why line n)
-by-verdict next only bytes verdict.NotBuilt a s out err e d w = not_built-is not_built_line s out err d (rw e at w)
 by-verdict next only bytes (verdict.Broken b) a s out err e d w = broken-is (broken_line b) s out err d (rw e at w)
 
 done-accepted : (v : Verdict) → status_of v ≡ status.Done → v ≡ verdict.Accepted
 done-accepted verdict.Accepted e = refl
-done-accepted verdict.NotBuilt e = absurd (cc)
 done-accepted (verdict.Broken b) e = absurd (cc)
-
-not_built-verdict : (v : Verdict) → status_of v ≡ status.NotBuilt → v ≡ verdict.NotBuilt
-not_built-verdict verdict.Accepted e = absurd (cc)
-not_built-verdict verdict.NotBuilt e = refl
-not_built-verdict (verdict.Broken b) e = absurd (cc)
 
 broken-verdict : (v : Verdict) → status_of v ≡ status.Broken → (b : model.Broken) × (v ≡ verdict.Broken b)
 broken-verdict verdict.Accepted e = absurd (cc)
-broken-verdict verdict.NotBuilt e = absurd (cc)
 broken-verdict (verdict.Broken b) e = (b, refl)
 
-module _ (one_verdict : (form : Form) (bytes : List ℕ) (v w : Verdict) → FileVerdict form bytes v → FileVerdict form bytes w → v ≡ w)
+module _ (one_verdict : (bytes : List ℕ) (v w : Verdict) → FileVerdict bytes v → FileVerdict bytes w → v ≡ w)
     (told : List ℕ → Option (List ℕ)) (rose : List ℕ → Type 0) where
   -- what is answered after the file of a name was read
-  abbrev FileSays : Form → (List ℕ → Answer → Type 0) → List ℕ → Answer → Type 0
-  FileSays form next name a = AfterRead (told name) (rose name) name long_answer (λ bytes. Judged form bytes (next bytes)) a
+  abbrev FileSays : (List ℕ → Answer → Type 0) → List ℕ → Answer → Type 0
+  FileSays next name a = AfterRead (told name) (rose name) name long_answer (λ bytes. Judged bytes (next bytes)) a
 
   -- a file that is told has these bytes and no others
   tells-same : (name bytes held : List ℕ) → told name ≡ Some held → Tells (told name) bytes → bytes ≡ held
   tells-same name bytes held e t = (rw e at t)
 
   -- the verdict on a file that is told, and its answer
-  record IsAnswered (form : Form) (next : List ℕ → Answer → Type 0) (bytes : List ℕ) (a : Answer) : Type 0 where
+  record IsAnswered (next : List ℕ → Answer → Type 0) (bytes : List ℕ) (a : Answer) : Type 0 where
     pub verdict : Verdict
-    pub judged : FileVerdict form bytes verdict
+    pub judged : FileVerdict bytes verdict
     pub answers : Answers (next bytes) verdict a
 
-  file-answer : (form : Form) (next : List ℕ → Answer → Type 0) (name bytes : List ℕ) (a : Answer) → told name ≡ Some bytes → FileSays form next name a
-      → (rose name × (a ≡ read_answer name)) ⊎ IsAnswered form next bytes a
-  file-answer form next name bytes a k (fault r e) = inl (r, e)
-  file-answer form next name bytes a k (too_long l e) = inr (record { verdict = verdict.Broken (at_byte 7 max_file_bytes); judged = TooLong (rw k at l); answers = e })
-  file-answer form next name bytes a k (whole got l t j) =
+  file-answer : (next : List ℕ → Answer → Type 0) (name bytes : List ℕ) (a : Answer) → told name ≡ Some bytes → FileSays next name a
+      → (rose name × (a ≡ read_answer name)) ⊎ IsAnswered next bytes a
+  file-answer next name bytes a k (fault r e) = inl (r, e)
+  file-answer next name bytes a k (too_long l e) = inr (record { verdict = verdict.Broken (at_byte 7 max_file_bytes); judged = TooLong (rw k at l); answers = e })
+  file-answer next name bytes a k (whole got l t j) =
       let same : got ≡ bytes = tells-same name got bytes k t in
-      inr (subst (λ (b : List ℕ). IsAnswered form next b a) same (record { verdict = j.verdict; judged = Within l j.judged; answers = j.answers }))
+      inr (subst (λ (b : List ℕ). IsAnswered next b a) same (record { verdict = j.verdict; judged = Within l j.judged; answers = j.answers }))
 
   -- the verdict by which a file that is told was answered
-  answered : (form : Form) (next : List ℕ → Answer → Type 0) (name bytes : List ℕ) (a : Answer) (s : Status) (out err : Change)
-      → told name ≡ Some bytes → IsDefined s → FileSays form next name a ⊎ (a ≡ memory_answer) → Written a s out err → IsAnswered form next bytes a
-  answered form next name bytes a s out err k d (inl says) w = elim (file-answer form next name bytes a k says) [
+  answered : (next : List ℕ → Answer → Type 0) (name bytes : List ℕ) (a : Answer) (s : Status) (out err : Change)
+      → told name ≡ Some bytes → IsDefined s → FileSays next name a ⊎ (a ≡ memory_answer) → Written a s out err → IsAnswered next bytes a
+  answered next name bytes a s out err k d (inl says) w = elim (file-answer next name bytes a k says) [
     | inl f ↦ absurd (read-undefined (read_line name) s out err d (rw f.1 at w))
     | inr answer ↦ answer
   ]
-  answered form next name bytes a s out err k d (inr m) w = absurd (memory-undefined s out err d (rw m at w))
+  answered next name bytes a s out err k d (inr m) w = absurd (memory-undefined s out err d (rw m at w))
 
   -- the status of a file that is told, by its verdict
-  record IsByVerdict (form : Form) (bytes : List ℕ) (s : Status) : Type 0 where
+  record IsByVerdict (bytes : List ℕ) (s : Status) : Type 0 where
     pub verdict : Verdict
-    pub judged : FileVerdict form bytes verdict
+    pub judged : FileVerdict bytes verdict
     pub status : s ≡ status_of verdict
 
-  by_verdict : (form : Form) (next : List ℕ → Answer → Type 0) → OnlyOutputs next → (name bytes : List ℕ) (a : Answer) (s : Status) (out err : Change)
-      → told name ≡ Some bytes → IsDefined s → FileSays form next name a ⊎ (a ≡ memory_answer) → Written a s out err → IsByVerdict form bytes s
-  by_verdict form next only name bytes a s out err k d says w =
-      let answer = answered form next name bytes a s out err k d says w in
+  by_verdict : (next : List ℕ → Answer → Type 0) → OnlyOutputs next → (name bytes : List ℕ) (a : Answer) (s : Status) (out err : Change)
+      → told name ≡ Some bytes → IsDefined s → FileSays next name a ⊎ (a ≡ memory_answer) → Written a s out err → IsByVerdict bytes s
+  by_verdict next only name bytes a s out err k d says w =
+      let answer = answered next name bytes a s out err k d says w in
       record { verdict = answer.verdict; judged = answer.judged; status = by-verdict next only bytes answer.verdict a s out err answer.answers d w }
 
-  done-exactly : (form : Form) (bytes : List ℕ) (s : Status) → IsByVerdict form bytes s → (s ≡ status.Done) ↔ FileVerdict form bytes verdict.Accepted
-  done-exactly form bytes s by = (
-    (λ e. subst (FileVerdict form bytes) (done-accepted by.verdict (sym by.status ∙ e)) by.judged),
-    (λ h. by.status ∙ ap status_of (one_verdict form bytes by.verdict verdict.Accepted by.judged h)),
+  done-exactly : (bytes : List ℕ) (s : Status) → IsByVerdict bytes s → (s ≡ status.Done) ↔ FileVerdict bytes verdict.Accepted
+  done-exactly bytes s by = (
+    (λ e. subst (FileVerdict bytes) (done-accepted by.verdict (sym by.status ∙ e)) by.judged),
+    (λ h. by.status ∙ ap status_of (one_verdict bytes by.verdict verdict.Accepted by.judged h)),
   )
 
   -- an answer to a file that is accepted is what follows
-  follows : (form : Form) (next : List ℕ → Answer → Type 0) → OnlyOutputs next → (name bytes : List ℕ) (a : Answer) (s : Status) (out err : Change)
-      → told name ≡ Some bytes → s ≡ status.Done → FileSays form next name a ⊎ (a ≡ memory_answer) → Written a s out err → next bytes a
-  follows form next only name bytes a s out err k e says w =
+  follows : (next : List ℕ → Answer → Type 0) → OnlyOutputs next → (name bytes : List ℕ) (a : Answer) (s : Status) (out err : Change)
+      → told name ≡ Some bytes → s ≡ status.Done → FileSays next name a ⊎ (a ≡ memory_answer) → Written a s out err → next bytes a
+  follows next only name bytes a s out err k e says w =
       let d : IsDefined s = subst IsDefined (sym e) tt in
-      let answer = answered form next name bytes a s out err k d says w in
+      let answer = answered next name bytes a s out err k d says w in
       let by = by-verdict next only bytes answer.verdict a s out err answer.answers d w in
       let accepted : answer.verdict ≡ verdict.Accepted = done-accepted answer.verdict (sym by ∙ e) in
       subst (λ (v : Verdict). Answers (next bytes) v a) accepted answer.answers
 
-  check-says : (name : List ℕ) (a : Answer) → MaySay told rose (Some (check name)) a → FileSays any_form (λ bytes x. IsAccepting x) name a ⊎ (a ≡ memory_answer)
+  check-says : (name : List ℕ) (a : Answer) → MaySay told rose (Some (check name)) a → FileSays (λ bytes x. IsAccepting x) name a ⊎ (a ≡ memory_answer)
   check-says name a (inl s) = inl s
   check-says name a (inr m) = inr m
 
-  compile-says : (name : List ℕ) (a : Answer) → MaySay told rose (Some (compile name)) a → FileSays first_form IsText name a ⊎ (a ≡ memory_answer)
+  compile-says : (name : List ℕ) (a : Answer) → MaySay told rose (Some (compile name)) a → FileSays IsText name a ⊎ (a ≡ memory_answer)
   compile-says name a (inl s) = inl s
   compile-says name a (inr m) = inr m
 
@@ -168,27 +158,27 @@ module _ (one_verdict : (form : Form) (bytes : List ℕ) (v w : Verdict) → Fil
   pub checks_exactly : (command : Option Command) (s : Status) (out err : Change) → Ends told rose command s out err → ChecksExactly told command s out err
   checks_exactly command s out err ends name bytes is k d =
       let says = check-says name ends.answer (rw is at ends.said) in (
-        done-exactly any_form bytes s (by_verdict any_form _ accepting name bytes ends.answer s out err k d says ends.written),
-        (λ e. done-text bytes ok_line ends.answer s out err (follows any_form _ accepting name bytes ends.answer s out err k e says ends.written) e ends.written),
+        done-exactly bytes s (by_verdict _ accepting name bytes ends.answer s out err k d says ends.written),
+        (λ e. done-text bytes ok_line ends.answer s out err (follows _ accepting name bytes ends.answer s out err k e says ends.written) e ends.written),
       )
 
   pub compiles_exactly : (command : Option Command) (s : Status) (out err : Change) → Ends told rose command s out err → CompilesExactly told command s out err
   compiles_exactly command s out err ends name bytes is k d =
       let says = compile-says name ends.answer (rw is at ends.said) in (
-        done-exactly first_form bytes s (by_verdict first_form IsText texts name bytes ends.answer s out err k d says ends.written),
+        done-exactly bytes s (by_verdict IsText texts name bytes ends.answer s out err k d says ends.written),
         (λ e.
-            let t = follows first_form IsText texts name bytes ends.answer s out err k e says ends.written in
+            let t = follows IsText texts name bytes ends.answer s out err k e says ends.written in
             let got = done-text bytes t.text ends.answer s out err t.answer e ends.written in
             (t.text, t.compiled, got.0, got.1)),
       )
 
   -- the verdict behind a status, whatever the action
   any-verdict : (command : Option Command) (name bytes : List ℕ) (a : Answer) (s : Status) (out err : Change) → file_of command ≡ Some name
-      → told name ≡ Some bytes → IsDefined s → MaySay told rose command a → Written a s out err → IsByVerdict (form_of command) bytes s
+      → told name ≡ Some bytes → IsDefined s → MaySay told rose command a → Written a s out err → IsByVerdict bytes s
   any-verdict (Some (check n)) name bytes a s out err is k d says w =
-      let same : n ≡ name = cc in by_verdict any_form _ accepting name bytes a s out err k d (check-says name a (rw same at says)) w
+      let same : n ≡ name = cc in by_verdict _ accepting name bytes a s out err k d (check-says name a (rw same at says)) w
   any-verdict (Some (compile n)) name bytes a s out err is k d says w =
-      let same : n ≡ name = cc in by_verdict first_form IsText texts name bytes a s out err k d (compile-says name a (rw same at says)) w
+      let same : n ≡ name = cc in by_verdict IsText texts name bytes a s out err k d (compile-says name a (rw same at says)) w
   any-verdict (Some (simulate r)) name bytes a s out err is k d says w = absurd (cc)
   any-verdict (Some (run r)) name bytes a s out err is k d says w = absurd (cc)
   any-verdict (Some (bench n)) name bytes a s out err is k d says w = absurd (cc)
@@ -213,7 +203,7 @@ module _ (one_verdict : (form : Form) (bytes : List ℕ) (v w : Verdict) → Fil
       → IsJudged told command v → s ≡ status_of v
   judged-status command v a s out err d says w j =
       let by = any-verdict command j.name j.bytes a s out err j.reads j.tells d says w in
-      by.status ∙ ap status_of (one_verdict (form_of command) j.bytes by.verdict v by.judged j.judged)
+      by.status ∙ ap status_of (one_verdict j.bytes by.verdict v by.judged j.judged)
 
   status-judged : (command : Option Command) (a : Answer) (s : Status) (out err : Change) → IsTold told command → IsDefined s → MaySay told rose command a → Written a s out err
       → (name : List ℕ) → file_of command ≡ Some name → (v : Verdict) × IsJudged told command v × (s ≡ status_of v)
@@ -240,7 +230,7 @@ module _ (one_verdict : (form : Form) (bytes : List ℕ) (v w : Verdict) → Fil
     pub judged : IsTold told command → IsJudged told command (verdict.Broken broken)
 
   file-broken : (next : List ℕ → Answer → Type 0) → OnlyOutputs next → (command : Option Command) (name line : List ℕ) → file_of command ≡ Some name
-      → FileSays (form_of command) next name (refusal why'.Broken line) → IsBrokenLine command line
+      → FileSays next name (refusal why'.Broken line) → IsBrokenLine command line
   file-broken next only command name line is (fault r e) = absurd (cc)
   file-broken next only command name line is (too_long l e) = record {
     broken = at_byte 7 max_file_bytes;
@@ -249,16 +239,15 @@ module _ (one_verdict : (form : Form) (bytes : List ℕ) (v w : Verdict) → Fil
   }
   file-broken next only command name line is (whole got l t j) = judged-line j.verdict j.judged j.answers
     where
-      judged-line : (v : Verdict) → IsVerdict (form_of command) got v → Answers (next got) v (refusal why'.Broken line) → IsBrokenLine command line
+      judged-line : (v : Verdict) → IsVerdict got v → Answers (next got) v (refusal why'.Broken line) → IsBrokenLine command line
       judged-line verdict.Accepted h n = absurd (only got _ line n)
-      judged-line verdict.NotBuilt h e = absurd (cc)
       judged-line (verdict.Broken b) h e = record {
         broken = b;
         line_is = cc;
         judged = λ k.
             let held = k name is in
             let same : got ≡ held.0 = tells-same name got held.0 held.1 t in
-            record { name = name; bytes = held.0; reads = is; tells = held.1; judged = subst (λ (x : List ℕ). FileVerdict (form_of command) x (verdict.Broken b)) same (Within l h) };
+            record { name = name; bytes = held.0; reads = is; tells = held.1; judged = subst (λ (x : List ℕ). FileVerdict x (verdict.Broken b)) same (Within l h) };
       }
 
   says-broken : (command : Option Command) (line : List ℕ) → Says told rose command (refusal why'.Broken line) → IsBrokenLine command line
@@ -298,66 +287,54 @@ module _ (one_verdict : (form : Form) (bytes : List ℕ) (v w : Verdict) → Fil
   to_come-not_built (Some (bench n)) a s out err d (inr m) w e = absurd (memory-undefined s out err d (rw m at w))
   to_come-not_built None a s out err d says w e = absurd (cc)
 
-  not_built-judged : (command : Option Command) (a : Answer) (s : Status) (out err : Change) → IsTold told command → IsDefined s → MaySay told rose command a → Written a s out err
-      → s ≡ status.NotBuilt → IsNotBuilt told command
-  not_built-judged command a s out err k d says w e = elim (reads-file command a s out err d says w) [
-    | inl file ↦
-        let found = status-judged command a s out err k d says w file.0 file.1 in
-        inr (subst (IsJudged told command) (not_built-verdict found.0 (sym found.2 ∙ e)) found.1)
-    | inr (inl to_come) ↦ inl to_come.0
-    | inr (inr none) ↦ let is = none.1 in absurd (cc)
-  ]
-
-  -- the line of what is not built
-  file-line : (form : Form) (next : List ℕ → Answer → Type 0) → OnlyOutputs next → (name line : List ℕ) → FileSays form next name (refusal why'.NotBuilt line) → line ≡ not_built_line
-  file-line form next only name line (fault r e) = absurd (cc)
-  file-line form next only name line (too_long l e) = absurd (cc)
-  file-line form next only name line (whole got l t j) = judged-line j.verdict j.answers
+  -- an action that is there answers no such refusal
+  file-line : (next : List ℕ → Answer → Type 0) → OnlyOutputs next → (name line : List ℕ) → FileSays next name (refusal why'.NotBuilt line) → ⊥
+  file-line next only name line (fault r e) = cc
+  file-line next only name line (too_long l e) = cc
+  file-line next only name line (whole got l t j) = judged-line j.verdict j.answers
     where
-      judged-line : (v : Verdict) → Answers (next got) v (refusal why'.NotBuilt line) → line ≡ not_built_line
-      judged-line verdict.Accepted n = absurd (only got _ line n)
-      judged-line verdict.NotBuilt e = cc
-      judged-line (verdict.Broken b) e = absurd (cc)
+      judged-line : (v : Verdict) → Answers (next got) v (refusal why'.NotBuilt line) → ⊥
+      judged-line verdict.Accepted n = only got _ line n
+      judged-line (verdict.Broken b) e = cc
 
-  says-line : (command : Option Command) (line : List ℕ) → Says told rose command (refusal why'.NotBuilt line) → line ≡ not_built_line
-  says-line (Some (check name)) line s = file-line any_form _ accepting name line s
-  says-line (Some (compile name)) line s = file-line first_form IsText texts name line s
-  says-line (Some (simulate r)) line e = cc
-  says-line (Some (run r)) line e = cc
-  says-line (Some (bench n)) line e = cc
+  says-line : (command : Option Command) (line : List ℕ) → Says told rose command (refusal why'.NotBuilt line) → (is_to_come command ≡ true) × (line ≡ not_built_line)
+  says-line (Some (check name)) line s = absurd (file-line _ accepting name line s)
+  says-line (Some (compile name)) line s = absurd (file-line IsText texts name line s)
+  says-line (Some (simulate r)) line e = (refl, cc)
+  says-line (Some (run r)) line e = (refl, cc)
+  says-line (Some (bench n)) line e = (refl, cc)
   says-line None line e = absurd (cc)
 
-  written-line : (command : Option Command) (a : Answer) (out err : Change) → MaySay told rose command a → Written a status.NotBuilt out err → Gets err not_built_line × Unchanged out
+  written-line : (command : Option Command) (a : Answer) (out err : Change) → MaySay told rose command a → Written a status.NotBuilt out err
+      → (is_to_come command ≡ true) × Gets err not_built_line × Unchanged out
   written-line command (output bytes) out err s w = absurd w
-  written-line command (refusal why line) out err (inl s) w = (rw (← says-line command line (rw w.0 at s)) w.1, w.2)
+  written-line command (refusal why line) out err (inl s) w =
+      let found = says-line command line (rw w.0 at s) in
+      (found.0, rw (← found.1) w.1, w.2)
   written-line command (refusal why line) out err (inr m) w = let e = w.0 in absurd (cc)
 
-  pub refuses_not_built : (command : Option Command) (s : Status) (out err : Change) → Ends told rose command s out err → RefusesNotBuilt told command s out err
+  pub refuses_not_built : (command : Option Command) (s : Status) (out err : Change) → Ends told rose command s out err → RefusesNotBuilt command s out err
   refuses_not_built command s out err ends = (
-    (λ k d. (
-      (λ e. not_built-judged command ends.answer s out err k d ends.said ends.written e),
-      (λ n. elim n [
-        | inl to_come ↦ to_come-not_built command ends.answer s out err d ends.said ends.written to_come
-        | inr j ↦ judged-status command verdict.NotBuilt ends.answer s out err d ends.said ends.written j
-      ]),
+    (λ d. (
+      (λ e. (written-line command ends.answer out err ends.said (rw e at ends.written)).0),
+      (λ to_come. to_come-not_built command ends.answer s out err d ends.said ends.written to_come),
     )),
-    (λ e. written-line command ends.answer out err ends.said (rw e at ends.written)),
+    (λ e. let found = written-line command ends.answer out err ends.said (rw e at ends.written) in (found.1, found.2)),
   )
 
   -- words that are a faulty command line
-  file-usage : (form : Form) (next : List ℕ → Answer → Type 0) → OnlyOutputs next → (name line : List ℕ) → FileSays form next name (refusal why'.Usage line) → ⊥
-  file-usage form next only name line (fault r e) = cc
-  file-usage form next only name line (too_long l e) = cc
-  file-usage form next only name line (whole got l t j) = judged-line j.verdict j.answers
+  file-usage : (next : List ℕ → Answer → Type 0) → OnlyOutputs next → (name line : List ℕ) → FileSays next name (refusal why'.Usage line) → ⊥
+  file-usage next only name line (fault r e) = cc
+  file-usage next only name line (too_long l e) = cc
+  file-usage next only name line (whole got l t j) = judged-line j.verdict j.answers
     where
       judged-line : (v : Verdict) → Answers (next got) v (refusal why'.Usage line) → ⊥
       judged-line verdict.Accepted n = only got _ line n
-      judged-line verdict.NotBuilt e = cc
       judged-line (verdict.Broken b) e = cc
 
   says-usage : (command : Option Command) (line : List ℕ) → Says told rose command (refusal why'.Usage line) → (command ≡ None) × (line ≡ usage_line)
-  says-usage (Some (check name)) line s = absurd (file-usage any_form _ accepting name line s)
-  says-usage (Some (compile name)) line s = absurd (file-usage first_form IsText texts name line s)
+  says-usage (Some (check name)) line s = absurd (file-usage _ accepting name line s)
+  says-usage (Some (compile name)) line s = absurd (file-usage IsText texts name line s)
   says-usage (Some (simulate r)) line e = absurd (cc)
   says-usage (Some (run r)) line e = absurd (cc)
   says-usage (Some (bench n)) line e = absurd (cc)
@@ -385,20 +362,19 @@ module _ (one_verdict : (form : Form) (bytes : List ℕ) (v w : Verdict) → Fil
   )
 
   -- the line of a fault of a read
-  file-read : (form : Form) (next : List ℕ → Answer → Type 0) → OnlyOutputs next → (name line : List ℕ) → FileSays form next name (refusal why'.ReadFault line) → rose name × (line ≡ read_line name)
-  file-read form next only name line (fault r e) = (r, cc)
-  file-read form next only name line (too_long l e) = absurd (cc)
-  file-read form next only name line (whole got l t j) = absurd (judged-line j.verdict j.answers)
+  file-read : (next : List ℕ → Answer → Type 0) → OnlyOutputs next → (name line : List ℕ) → FileSays next name (refusal why'.ReadFault line) → rose name × (line ≡ read_line name)
+  file-read next only name line (fault r e) = (r, cc)
+  file-read next only name line (too_long l e) = absurd (cc)
+  file-read next only name line (whole got l t j) = absurd (judged-line j.verdict j.answers)
     where
       judged-line : (v : Verdict) → Answers (next got) v (refusal why'.ReadFault line) → ⊥
       judged-line verdict.Accepted n = only got _ line n
-      judged-line verdict.NotBuilt e = cc
       judged-line (verdict.Broken b) e = cc
 
   says-read : (command : Option Command) (line : List ℕ) → Says told rose command (refusal why'.ReadFault line)
       → (name : List ℕ) × (file_of command ≡ Some name) × rose name × (line ≡ read_line name)
-  says-read (Some (check name)) line s = let r = file-read any_form _ accepting name line s in (name, refl, r.0, r.1)
-  says-read (Some (compile name)) line s = let r = file-read first_form IsText texts name line s in (name, refl, r.0, r.1)
+  says-read (Some (check name)) line s = let r = file-read _ accepting name line s in (name, refl, r.0, r.1)
+  says-read (Some (compile name)) line s = let r = file-read IsText texts name line s in (name, refl, r.0, r.1)
   says-read (Some (simulate r)) line e = absurd (cc)
   says-read (Some (run r)) line e = absurd (cc)
   says-read (Some (bench n)) line e = absurd (cc)
@@ -426,19 +402,18 @@ module _ (one_verdict : (form : Form) (bytes : List ℕ) (v w : Verdict) → Fil
   blames_writes command s out err ends e = (ends.answer, ends.said, written-fault ends.answer out err (rw e at ends.written))
 
   -- want of memory is told by its own line
-  file-memory : (form : Form) (next : List ℕ → Answer → Type 0) → OnlyOutputs next → (name line : List ℕ) → FileSays form next name (refusal why'.NoMemory line) → ⊥
-  file-memory form next only name line (fault r e) = cc
-  file-memory form next only name line (too_long l e) = cc
-  file-memory form next only name line (whole got l t j) = judged-line j.verdict j.answers
+  file-memory : (next : List ℕ → Answer → Type 0) → OnlyOutputs next → (name line : List ℕ) → FileSays next name (refusal why'.NoMemory line) → ⊥
+  file-memory next only name line (fault r e) = cc
+  file-memory next only name line (too_long l e) = cc
+  file-memory next only name line (whole got l t j) = judged-line j.verdict j.answers
     where
       judged-line : (v : Verdict) → Answers (next got) v (refusal why'.NoMemory line) → ⊥
       judged-line verdict.Accepted n = only got _ line n
-      judged-line verdict.NotBuilt e = cc
       judged-line (verdict.Broken b) e = cc
 
   says-memory : (command : Option Command) (line : List ℕ) → Says told rose command (refusal why'.NoMemory line) → ⊥
-  says-memory (Some (check name)) line s = file-memory any_form _ accepting name line s
-  says-memory (Some (compile name)) line s = file-memory first_form IsText texts name line s
+  says-memory (Some (check name)) line s = file-memory _ accepting name line s
+  says-memory (Some (compile name)) line s = file-memory IsText texts name line s
   says-memory (Some (simulate r)) line e = cc
   says-memory (Some (run r)) line e = cc
   says-memory (Some (bench n)) line e = cc
@@ -471,12 +446,12 @@ module _ (one_verdict : (form : Form) (bytes : List ℕ) (v w : Verdict) → Fil
   memory-whole status.NotBuilt out err calm w = let e = w.0 in absurd (cc)
   memory-whole status.ReadFault out err calm w = let e = w.0 in absurd (cc)
 
-  file-complete : (form : Form) (next : List ℕ → Answer → Type 0) → OnlyOutputs next → (name bytes : List ℕ) (a : Answer) (s : Status) (out err : Change) → told name ≡ Some bytes
-      → FileVerdict form bytes verdict.Accepted → (rose name → ⊥) → (Rose out.had out.has → ⊥) → FileSays form next name a → Written a s out err → s ≡ status.Done
-  file-complete form next only name bytes a s out err k h sound calm says w = elim (file-answer form next name bytes a k says) [
+  file-complete : (next : List ℕ → Answer → Type 0) → OnlyOutputs next → (name bytes : List ℕ) (a : Answer) (s : Status) (out err : Change) → told name ≡ Some bytes
+      → FileVerdict bytes verdict.Accepted → (rose name → ⊥) → (Rose out.had out.has → ⊥) → FileSays next name a → Written a s out err → s ≡ status.Done
+  file-complete next only name bytes a s out err k h sound calm says w = elim (file-answer next name bytes a k says) [
     | inl f ↦ absurd (sound f.0)
     | inr answer ↦
-        let accepted = one_verdict form bytes answer.verdict verdict.Accepted answer.judged h in
+        let accepted = one_verdict bytes answer.verdict verdict.Accepted answer.judged h in
         done a (subst (λ (v : Verdict). Answers (next bytes) v a) accepted answer.answers) w
   ]
     where
@@ -485,11 +460,11 @@ module _ (one_verdict : (form : Form) (bytes : List ℕ) (v w : Verdict) → Fil
       done (refusal why line) n written = absurd (only bytes why line n)
 
   complete-says : (command : Option Command) (name bytes : List ℕ) (a : Answer) (s : Status) (out err : Change) → file_of command ≡ Some name → told name ≡ Some bytes
-      → FileVerdict (form_of command) bytes verdict.Accepted → (rose name → ⊥) → (Rose out.had out.has → ⊥) → Says told rose command a → Written a s out err → s ≡ status.Done
+      → FileVerdict bytes verdict.Accepted → (rose name → ⊥) → (Rose out.had out.has → ⊥) → Says told rose command a → Written a s out err → s ≡ status.Done
   complete-says (Some (check n)) name bytes a s out err is k h sound calm says w =
-      let same : n ≡ name = cc in file-complete any_form _ accepting name bytes a s out err k h sound calm (rw same at says) w
+      let same : n ≡ name = cc in file-complete _ accepting name bytes a s out err k h sound calm (rw same at says) w
   complete-says (Some (compile n)) name bytes a s out err is k h sound calm says w =
-      let same : n ≡ name = cc in file-complete first_form IsText texts name bytes a s out err k h sound calm (rw same at says) w
+      let same : n ≡ name = cc in file-complete IsText texts name bytes a s out err k h sound calm (rw same at says) w
   complete-says (Some (simulate r)) name bytes a s out err is k h sound calm says w = absurd (cc)
   complete-says (Some (run r)) name bytes a s out err is k h sound calm says w = absurd (cc)
   complete-says (Some (bench n)) name bytes a s out err is k h sound calm says w = absurd (cc)

@@ -12,8 +12,7 @@ use Rattle.plcx_model.specs.declared.project.Project as model'
 use Rattle.plcx_profile.specs.Profile.{IsBroken, ProfileVerdict, project_in}
 use Rattle.plcx_types.specs.Limits.{max_file_bytes}
 use Rattle.plcx_rules.specs.CheckVerdict.{CheckVerdict}
-use Rattle.plcx_command.specs.FirstForm.{Form, HasForm}
-use Rattle.plcx_command.specs.Verdict.{Verdict, Broken, Breaks, InTree, InProfile, InProject, Keeps, IsVerdict, Refused, InOtherForm, InForm, FileVerdict, TooLong, Within, tree_rule}
+use Rattle.plcx_command.specs.Verdict.{Verdict, Broken, Breaks, InTree, InProfile, InProject, Keeps, IsVerdict, Refused, Passed, FileVerdict, TooLong, Within, tree_rule}
 
 some_same : {A : Type 0} (x y : A) → Some x ≡ Some y → x ≡ y
 some_same x y h = cc
@@ -69,22 +68,14 @@ module _
         let both : Some b ≡ None = one_check p (Some b) None (subst (λ (q : model'.Project). CheckVerdict q (Some b)) same h) k.checks in
         cc
 
-    pub one-project : (bytes : List ℕ) (p q : model'.Project) → Keeps bytes p → Keeps bytes q → p ≡ q
-    one-project bytes p q k l = k.stands ∙ ap (λ (r : Element). project_in r) (one_root bytes k.root l.root k.tree l.tree) ∙ sym l.stands
+    same-verdict : (bytes : List ℕ) (v w : Verdict) → IsVerdict bytes v → IsVerdict bytes w → v ≡ w
+    same-verdict bytes _ _ (Refused {b} h) (Refused {b = c} k) = ap Broken (one-broken bytes b c h k)
+    same-verdict bytes _ _ (Refused {b} h) (Passed p k) = absurd (not-both bytes b p h k)
+    same-verdict bytes _ _ (Passed p k) (Refused {b} h) = absurd (not-both bytes b p h k)
+    same-verdict bytes _ _ (Passed p k) (Passed q l) = refl
 
-    same-verdict : (form : Form) (bytes : List ℕ) (v w : Verdict) → IsVerdict form bytes v → IsVerdict form bytes w → v ≡ w
-    same-verdict form bytes _ _ (Refused {b} h) (Refused {b = c} k) = ap Broken (one-broken bytes b c h k)
-    same-verdict form bytes _ _ (Refused {b} h) (InOtherForm p k none) = absurd (not-both bytes b p h k)
-    same-verdict form bytes _ _ (Refused {b} h) (InForm p k is) = absurd (not-both bytes b p h k)
-    same-verdict form bytes _ _ (InOtherForm p k none) (Refused {b} h) = absurd (not-both bytes b p h k)
-    same-verdict form bytes _ _ (InForm p k is) (Refused {b} h) = absurd (not-both bytes b p h k)
-    same-verdict form bytes _ _ (InOtherForm p k none) (InOtherForm q l other) = refl
-    same-verdict form bytes _ _ (InForm p k is) (InForm q l it) = refl
-    same-verdict form bytes _ _ (InOtherForm p k none) (InForm q l is) = absurd (none (subst (HasForm form) (one-project bytes q p l k) is))
-    same-verdict form bytes _ _ (InForm q l is) (InOtherForm p k none) = absurd (none (subst (HasForm form) (one-project bytes q p l k) is))
-
-    pub same-file : (form : Form) (bytes : List ℕ) (v w : Verdict) → FileVerdict form bytes v → FileVerdict form bytes w → v ≡ w
-    same-file form bytes v w (TooLong l) (TooLong l') = refl
-    same-file form bytes v w (TooLong l) (Within k h) = absurd (omega arith)
-    same-file form bytes v w (Within k h) (TooLong l) = absurd (omega arith)
-    same-file form bytes v w (Within k h) (Within k' h') = same-verdict form bytes v w h h'
+    pub same-file : (bytes : List ℕ) (v w : Verdict) → FileVerdict bytes v → FileVerdict bytes w → v ≡ w
+    same-file bytes v w (TooLong l) (TooLong l') = refl
+    same-file bytes v w (TooLong l) (Within k h) = absurd (omega arith)
+    same-file bytes v w (Within k h) (TooLong l) = absurd (omega arith)
+    same-file bytes v w (Within k h) (Within k' h') = same-verdict bytes v w h h'

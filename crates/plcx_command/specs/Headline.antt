@@ -5,7 +5,6 @@ use Rattle.plcx_command.specs.Answer.{ok_line, read_line, broken_line, usage_lin
 use Rattle.plcx_words.specs.Command.{Command, check, compile, simulate, run, bench}
 use Rattle.plcx_model.specs.declared.broken.Broken as model
 use Rattle.plcx_command.specs.Compiled.{IsCompiled}
-use Rattle.plcx_command.specs.FirstForm.{Form, any_form, first_form}
 use Rattle.plcx_command.specs.Verdict.{FileVerdict}
 use Rattle.plcx_command.specs.Verdict as verdict
 use Rattle.plcx_command.specs.Ends.{Change, Gets, GetsFront, Unchanged, MaySay}
@@ -22,15 +21,15 @@ IsDefined ReadFault = ⊥
 IsDefined WriteFault = ⊥
 IsDefined NoMemory = ⊥
 
--- The text of a file comes exactly where the file is accepted, in the form that is compiled by now; then it is exactly what the output got, and it does what the diagram does.
+-- The text of a file comes exactly where the file is accepted; then it is exactly what the output got, and it does what the diagrams do.
 abbrev pub CompilesExactly : (List ℕ → Option (List ℕ)) → Option Command → Status → Change → Change → Type 0
 CompilesExactly told command status out err = (name bytes : List ℕ) → command ≡ Some (compile name) → told name ≡ Some bytes → IsDefined status
-    → ((status ≡ Done) ↔ FileVerdict first_form bytes verdict.Accepted) × (status ≡ Done → (text : List ℕ) × IsCompiled bytes text × Gets out text × Unchanged err)
+    → ((status ≡ Done) ↔ FileVerdict bytes verdict.Accepted) × (status ≡ Done → (text : List ℕ) × IsCompiled bytes text × Gets out text × Unchanged err)
 
 -- `ok` comes exactly where the file is accepted.
 abbrev pub ChecksExactly : (List ℕ → Option (List ℕ)) → Option Command → Status → Change → Change → Type 0
 ChecksExactly told command status out err = (name bytes : List ℕ) → command ≡ Some (check name) → told name ≡ Some bytes → IsDefined status
-    → ((status ≡ Done) ↔ FileVerdict any_form bytes verdict.Accepted) × (status ≡ Done → Gets out ok_line × Unchanged err)
+    → ((status ≡ Done) ↔ FileVerdict bytes verdict.Accepted) × (status ≡ Done → Gets out ok_line × Unchanged err)
 
 -- the words are no command
 abbrev pub RefusesUsage : Option Command → Status → Change → Change → Type 0
@@ -45,22 +44,13 @@ file_of (Some (run r)) = None
 file_of (Some (bench n)) = None
 file_of None = None
 
--- the form of projects that a command takes
-abbrev pub form_of : Option Command → Form
-form_of (Some (compile name)) = first_form
-form_of (Some (check name)) = any_form
-form_of (Some (simulate r)) = any_form
-form_of (Some (run r)) = any_form
-form_of (Some (bench n)) = any_form
-form_of None = any_form
-
 -- the desk tells the file that the command reads, and this is the verdict on it
 pub record IsJudged (told : List ℕ → Option (List ℕ)) (command : Option Command) (v : verdict.Verdict) : Type 0 where
   pub name : List ℕ
   pub bytes : List ℕ
   pub reads : file_of command ≡ Some name
   pub tells : told name ≡ Some bytes
-  pub judged : FileVerdict (form_of command) bytes v
+  pub judged : FileVerdict bytes v
 
 -- the desk tells the file that the command reads
 abbrev pub IsTold : (List ℕ → Option (List ℕ)) → Option Command → Type 0
@@ -81,13 +71,9 @@ is_to_come (Some (run r)) = true
 is_to_come (Some (bench n)) = true
 is_to_come None = false
 
--- What is not built is an action, or the text of a file that keeps all rules and has not the form that is compiled by now.
-abbrev pub IsNotBuilt : (List ℕ → Option (List ℕ)) → Option Command → Type 0
-IsNotBuilt told command = (is_to_come command ≡ true) ⊎ IsJudged told command verdict.NotBuilt
-
-abbrev pub RefusesNotBuilt : (List ℕ → Option (List ℕ)) → Option Command → Status → Change → Change → Type 0
-RefusesNotBuilt told command status out err =
-    (IsTold told command → IsDefined status → ((status ≡ NotBuilt) ↔ IsNotBuilt told command)) × (status ≡ NotBuilt → Gets err not_built_line × Unchanged out)
+-- What is not built is an action.
+abbrev pub RefusesNotBuilt : Option Command → Status → Change → Change → Type 0
+RefusesNotBuilt command status out err = (IsDefined status → ((status ≡ NotBuilt) ↔ (is_to_come command ≡ true))) × (status ≡ NotBuilt → Gets err not_built_line × Unchanged out)
 
 -- A fault of a read is that of the file which the command reads: its count rose, and its name is told.
 abbrev pub BlamesReads : (List ℕ → Type 0) → Option Command → Status → Change → Change → Type 0
@@ -108,5 +94,5 @@ TellsMemory status out err = status ≡ NoMemory → Gets err memory_line × Unc
 
 -- Where the file is accepted, and no count of it and of no sink rose, the output comes, unless memory is refused.
 abbrev pub IsComplete : (List ℕ → Option (List ℕ)) → (List ℕ → Type 0) → Option Command → Status → Change → Change → Type 0
-IsComplete told rose command status out err = (name bytes : List ℕ) → file_of command ≡ Some name → told name ≡ Some bytes → FileVerdict (form_of command) bytes verdict.Accepted
+IsComplete told rose command status out err = (name bytes : List ℕ) → file_of command ≡ Some name → told name ≡ Some bytes → FileVerdict bytes verdict.Accepted
     → (rose name → ⊥) → (Rose out.had out.has → ⊥) → (Rose err.had err.has → ⊥) → (status ≡ Done) ⊎ (status ≡ NoMemory)

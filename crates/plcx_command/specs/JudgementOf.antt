@@ -7,14 +7,20 @@ use Rattle.plcx_xml.specs.declared.tree.Element.{Element}
 use Rattle.plcx_model.specs.declared.broken.Broken as model
 use Rattle.plcx_model.specs.declared.project.Project.{Project}
 use Rattle.plcx_profile.specs.Profile.{IsBroken, ProfileVerdict, project_in}
+use Rattle.plcx_check.specs.declared.checked.Checked.{Checked}
 use Rattle.plcx_rules.specs.CheckVerdict.{CheckVerdict}
+use Rattle.plcx_view.specs.Checked as view
 use Rattle.plcx_command.specs.Verdict.{Breaks, Keeps, tree_rule}
 use Rattle.plcx_command.specs.declared.judging.Judgement.{Judgement}
 use Rattle.plcx_command.specs.declared.judging.Judgement.TheVariants.{Accepted, Broken}
 
+-- a project that breaks no rule, with its own links, types and plan
+abbrev pub IsChecked : Checked → Type 0
+IsChecked c = view.IsChecked c.project c.links c.types c.plan
+
 -- the verdict on bytes
 abbrev pub IsJudgement : List ℕ → Judgement → Type 0
-IsJudgement bytes (Accepted c) = Keeps bytes c.project
+IsJudgement bytes (Accepted c) = Keeps bytes c.project × IsChecked c
 IsJudgement bytes (Broken b) = Breaks bytes b
 
 -- that of bytes that stand for no tree
@@ -24,7 +30,7 @@ IsFault e (Broken b) = tree_rule e ≡ Some b
 
 -- that on a project
 abbrev pub IsJudgementOfProject : Project → Judgement → Type 0
-IsJudgementOfProject project (Accepted c) = (c.project ≡ project) × CheckVerdict c.project None
+IsJudgementOfProject project (Accepted c) = (c.project ≡ project) × IsChecked c
 IsJudgementOfProject project (Broken b) = CheckVerdict project (Some b)
 
 -- that on an element

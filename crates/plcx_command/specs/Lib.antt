@@ -1,7 +1,6 @@
 pub mod Answer
 pub mod Compiled
 pub mod Ends
-pub mod FirstForm
 pub mod Headline
 pub mod JudgementOf
 pub mod Refused

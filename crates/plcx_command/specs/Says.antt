@@ -5,11 +5,7 @@ use Rattle.plcx_words.specs.Command.{Command, check, compile, simulate, run, ben
 use Rattle.plcx_types.specs.Limits.{max_file_bytes}
 use Rattle.plcx_command.specs.Answer.{Answer, output, ok_answer, usage_answer, not_built_answer, read_answer, broken_answer}
 use Rattle.plcx_command.specs.Compiled.{IsCompiled}
-use Rattle.plcx_model.specs.declared.project.Project as model
-use Rattle.plcx_first_model.specs.declared.project.Project.{Project}
-use Rattle.plcx_first_form.specs.Form.{first_form_of}
-use Rattle.plcx_command.specs.FirstForm.{Form, any_form, first_form, IsFirst, IsTextOf}
-use Rattle.plcx_command.specs.Verdict.{Verdict, IsVerdict, Accepted, NotBuilt, Broken, at_byte}
+use Rattle.plcx_command.specs.Verdict.{Verdict, IsVerdict, Accepted, Broken, at_byte}
 
 -- What the read of a file comes to: a fault of its name, a file that is too long, or its bytes and what follows on them.
 pub data AfterRead (told : Option (List ℕ)) (rose : Type 0) (name : List ℕ) (long : Answer) (next : List ℕ → Answer → Type 0) (a : Answer) : Type 0 where
@@ -20,13 +16,12 @@ pub data AfterRead (told : Option (List ℕ)) (rose : Type 0) (name : List ℕ) 
 -- what is answered to a verdict: what follows on a file that is accepted, or its refusal
 abbrev pub Answers : (Answer → Type 0) → Verdict → Answer → Type 0
 Answers next Accepted a = next a
-Answers next NotBuilt a = a ≡ not_built_answer
 Answers next (Broken b) a = a ≡ broken_answer b
 
--- What the verdict on bytes comes to, where a command takes projects of a form.
-pub record Judged (form : Form) (bytes : List ℕ) (next : Answer → Type 0) (a : Answer) : Type 0 where
+-- What the verdict on bytes comes to.
+pub record Judged (bytes : List ℕ) (next : Answer → Type 0) (a : Answer) : Type 0 where
   pub verdict : Verdict
-  pub judged : IsVerdict form bytes verdict
+  pub judged : IsVerdict bytes verdict
   pub answers : Answers next verdict a
 
 -- the answer is a text of the file
@@ -35,24 +30,21 @@ pub record IsText (bytes : List ℕ) (a : Answer) : Type 0 where
   pub compiled : IsCompiled bytes text
   pub answer : a ≡ output text
 
--- what is answered to a project that breaks no rule: its text, where it has the form that is compiled by now
-pub data IsProjectAnswer (file : model.Project) (a : Answer) : Type 0 where
-  InForm : (project : Project) (text : List ℕ) → first_form_of file ≡ Some project → IsTextOf project text → a ≡ output text → IsFirst file → IsProjectAnswer file a
-  InOtherForm : (IsFirst file → ⊥) → a ≡ not_built_answer → IsProjectAnswer file a
-
 -- the answer to a file that is longer than a file may be
 abbrev pub long_answer : Answer
 long_answer = broken_answer (at_byte 7 max_file_bytes)
 
--- the answer to a file that is only judged
+-- what is answered to a file that is accepted, and only judged
 abbrev pub IsAccepting : Answer → Type 0
 IsAccepting a = a ≡ ok_answer
 
+-- the answer to a file that is only judged
 abbrev pub checked : List ℕ → Answer → Type 0
-checked bytes a = Judged any_form bytes IsAccepting a
+checked bytes a = Judged bytes IsAccepting a
 
+-- the answer to a file that is compiled
 abbrev pub compiled : List ℕ → Answer → Type 0
-compiled bytes a = Judged first_form bytes (IsText bytes) a
+compiled bytes a = Judged bytes (IsText bytes) a
 
 -- what a command answers, where the desk tells these files and these names' counts rose
 abbrev pub SaysTo : (List ℕ → Option (List ℕ)) → (List ℕ → Type 0) → Command → Answer → Type 0

@@ -10,19 +10,17 @@ use Rattle.plcx_model.specs.declared.broken.Broken as model
 use Rattle.plcx_model.specs.declared.broken.Place.TheVariants.{Byte}
 use Rattle.plcx_model.specs.declared.project.Project.{Project}
 use Rattle.plcx_profile.specs.Profile.{IsBroken, ProfileVerdict, project_in}
-use Rattle.plcx_rules.specs.CheckVerdict.{CheckVerdict}
-use Rattle.plcx_command.specs.FirstForm.{Form, HasForm}
+use Rattle.plcx_rules.specs.CheckVerdict.{CheckVerdict, broken_at}
 
 pub data Verdict : Type 0 where
+  -- no rule is broken
   Accepted : Verdict
-  -- no rule is broken, and the project has not the form that the command takes by now
-  NotBuilt : Verdict
   -- the first rule that is broken, and its place
   Broken : model.Broken → Verdict
 
 -- a rule that is broken at a byte
 abbrev pub at_byte : ℕ → ℕ → model.Broken
-at_byte rule byte = record { rule = record { 0 = rule }; place = Byte byte }
+at_byte rule byte = broken_at rule (Byte byte)
 
 -- the rule behind a fault of the tree
 abbrev pub tree_rule : XmlError → Option model.Broken
@@ -46,13 +44,12 @@ pub record Keeps (bytes : List ℕ) (project : Project) : Type 0 where
   pub stands : project ≡ project_in root
   pub checks : CheckVerdict project None
 
--- The verdict on bytes, for a command that takes projects of a form.
-pub data IsVerdict (form : Form) (bytes : List ℕ) : Verdict → Type 0 where
-  Refused : {b : model.Broken} → Breaks bytes b → IsVerdict form bytes (Broken b)
-  InOtherForm : (project : Project) → Keeps bytes project → (HasForm form project → ⊥) → IsVerdict form bytes NotBuilt
-  InForm : (project : Project) → Keeps bytes project → HasForm form project → IsVerdict form bytes Accepted
+-- The verdict on bytes.
+pub data IsVerdict (bytes : List ℕ) : Verdict → Type 0 where
+  Refused : {b : model.Broken} → Breaks bytes b → IsVerdict bytes (Broken b)
+  Passed : (project : Project) → Keeps bytes project → IsVerdict bytes Accepted
 
 -- The verdict on a file, whose length is looked at first.
-pub data FileVerdict (form : Form) (bytes : List ℕ) : Verdict → Type 0 where
-  TooLong : max_file_bytes < length bytes → FileVerdict form bytes (Broken (at_byte 7 max_file_bytes))
-  Within : {v : Verdict} → length bytes ≤ max_file_bytes → IsVerdict form bytes v → FileVerdict form bytes v
+pub data FileVerdict (bytes : List ℕ) : Verdict → Type 0 where
+  TooLong : max_file_bytes < length bytes → FileVerdict bytes (Broken (at_byte 7 max_file_bytes))
+  Within : {v : Verdict} → length bytes ≤ max_file_bytes → IsVerdict bytes v → FileVerdict bytes v

@@ -4,15 +4,15 @@ ghost use Rattle.plcx_io.specs.Counts.{Rose};
 ghost use Rattle.plcx_words.specs.Command.{command_of};
 ghost use Rattle.plcx_words.specs.Says.{said_by};
 ghost use Rattle.plcx_command.specs.Answer.{ok_answer, usage_answer, not_built_answer, read_answer, broken_answer};
-ghost use Rattle.plcx_command.specs.Says.{Says, SaysTo, AfterRead, IsProjectAnswer, checked, compiled, long_answer};
+ghost use Rattle.plcx_command.specs.Says.{Says, SaysTo, AfterRead, checked, compiled, long_answer};
 ghost use Rattle.plcx_command.specs.ReplyOf.{answer_of};
 
-use crate::judging::{Judgement, at_byte, first_of, judge, text_of};
+use crate::judging::{Judgement, at_byte, judge, text_of};
 use crate::line::broken_line;
 use crate::reply::Reply;
 use crate::status::Refused;
 use plcx_io::{Desk, LoadError, load};
-use plcx_model::{Broken, Project};
+use plcx_model::Broken;
 use plcx_types::NoMemory;
 use plcx_types::limits::MAX_FILE_BYTES;
 use plcx_words::{Command, Words, WordsError, command_of};
@@ -64,22 +64,12 @@ fn checked(alloc: Global, bytes: &[u8]) -> Result<Reply, NoMemory>
     }
 }
 
-/// What a project gives that breaks no rule.
-fn compiled_project(alloc: Global, project: &Project) -> Result<Reply, NoMemory>
-    ensures { IfOk result (λ reply. IsProjectAnswer project.now (answer_of reply)) }
-{
-    match first_of(alloc, project)? {
-        Some(accepted) => Ok(Reply::Output(text_of(alloc, &accepted)?)),
-        None => not_built(alloc),
-    }
-}
-
 /// What a file gives that is compiled.
 fn compiled(alloc: Global, bytes: &[u8]) -> Result<Reply, NoMemory>
     ensures { IfOk result (λ reply. compiled bytes.now (answer_of reply)) }
 {
     match judge(alloc, bytes)? {
-        Judgement::Accepted(checked) => compiled_project(alloc, checked.project()),
+        Judgement::Accepted(checked) => Ok(Reply::Output(text_of(alloc, &checked)?)),
         Judgement::Broken(found) => broken(alloc, &found),
     }
 }

@@ -1,33 +1,21 @@
 //! The verdict on a file, and the text of one that is compiled.
 ghost use Rattle.std.specs.Prelude.{◌≡◌, IfOk, MatchResult};
-ghost use Rattle.plcx_types.specs.Lists.{Each};
 ghost use Rattle.plcx_xml.specs.StandsForTree.{IsTreeOf};
-ghost use Rattle.plcx_first_model.specs.Sound.{IsSound};
-ghost use Rattle.plcx_first_order.specs.Planned.{IsPlanned};
-ghost use Rattle.plcx_command.specs.FirstForm.{IsTextOf, IsFound};
+ghost use Rattle.plcx_view.specs.Checked.{IsChecked};
+ghost use Rattle.plcx_view.specs.Diagrams.{diagrams_of};
+ghost use Rattle.plcx_command.specs.Compiled.{IsTextOf};
 ghost use Rattle.plcx_command.specs.JudgementOf.{IsJudgement, IsJudgementOfTree};
 
 use plcx_check::{CheckError, Checked, check};
-use plcx_first_form::{FormError, first_form, sound_forms};
-use plcx_first_model::{Plan, Project, diagrams_fit};
-use plcx_first_order::{PlanError, plan};
 use plcx_jump::compile;
-use plcx_meaning::{same_behavior, texts_are_ready};
-use plcx_model::{Broken, Place, Rule};
+use plcx_model::{Broken, Place, Project, Rule};
 use plcx_profile::{ProfileError, project_of};
 use plcx_read::one_unit;
 use plcx_sound::sound_project;
-use plcx_st::{print, read_again, texts_are_in_range};
+use plcx_st::{print, read_again};
 use plcx_types::NoMemory;
 use plcx_xml::{Node, XmlError, read_tree};
 use std::alloc::Global;
-
-/// A project that is compiled, with the order of its evaluation.
-#[derive(Drop)]
-pub struct Accepted {
-    pub project: Project,
-    pub plan: Plan,
-}
 
 /// The verdict on a file.
 #[derive(Drop)]
@@ -64,7 +52,7 @@ fn of_tree(fault: XmlError) -> Result<Judgement, NoMemory>
 ghost use Rattle.plcx_command.specs.JudgementOf.{IsFault};
 
 /// The verdict on a project of a tree that breaks no rule.
-fn of_project(alloc: Global, project: plcx_model::Project) -> Result<Judgement, NoMemory>
+fn of_project(alloc: Global, project: Project) -> Result<Judgement, NoMemory>
     requires { Sound project }
     ensures { IfOk result (λ j. IsJudgementOfProject project j) }
 {
@@ -103,41 +91,13 @@ pub fn judge(alloc: Global, bytes: &[u8]) -> Result<Judgement, NoMemory>
     }
 }
 
-/// The first form of a project with the order of its evaluation, or None where it has another form.
-pub fn first_of(alloc: Global, project: &plcx_model::Project) -> Result<Option<Accepted>, NoMemory>
-    ensures { IfOk result (λ found. IsFound project.now found) }
+/// The text of a project that breaks no rule.
+pub fn text_of(alloc: Global, checked: &Checked) -> Result<Vec<u8>, NoMemory>
+    requires { IsChecked checked.now.project checked.now.links checked.now.types checked.now.plan }
+    ensures { IfOk result (λ text. IsTextOf (diagrams_of checked.now.project checked.now.links checked.now.types checked.now.plan) text.items) }
 {
-    sound_forms();
-    let first = match first_form(alloc, project) {
-        Ok(first) => first,
-        Err(FormError::NotBuilt) => return Ok(None),
-        Err(FormError::NoMemory) => return Err(NoMemory),
-    };
-    match plan(alloc, &first) {
-        Ok(plan) => Ok(Some(Accepted {
-            project: first,
-            plan,
-        })),
-        Err(PlanError::NotBuilt) => Ok(None),
-        Err(PlanError::NoMemory) => Err(NoMemory),
-    }
-}
-
-/// The text of a project's one body, whose networks stand in the plan.
-pub fn text_of(alloc: Global, accepted: &Accepted) -> Result<Vec<u8>, NoMemory>
-    requires planned { IsPlanned accepted.now.project accepted.now.plan }
-    requires sound { Each IsSound accepted.now.project.pous }
-    ensures { IfOk result (λ text. IsTextOf accepted.now.project text.items) }
-{
-    diagrams_fit();
-    texts_are_in_range();
-    texts_are_ready();
-    same_behavior();
     one_unit();
     read_again();
-    let [pou] = accepted.project.pous.as_slice() else {
-        unreachable!()
-    };
-    let unit = compile(alloc, pou, &accepted.plan)?;
+    let unit = compile(alloc, checked)?;
     print(alloc, &unit)
 }

@@ -1,17 +1,16 @@
 //! Laws of the definitions that the top call's clauses cite.
 ghost use Rattle.std.specs.Prelude.{◌≡◌, ℕ, List};
 ghost use Rattle.plcx_command.specs.Compiled.{IsCompiled};
-ghost use Rattle.plcx_command.specs.FirstForm.{Form};
 ghost use Rattle.plcx_command.specs.Verdict.{Verdict, FileVerdict};
 
-use plcx_first_order::one_plan;
+use plcx_fits::one_diagram;
 use plcx_profile::one_profile_verdict;
 use plcx_rules::one_check_verdict;
 use plcx_xml::{no_tree, one_fault, one_tree};
 
 /// A file has one verdict.
 pub fn one_verdict()
-    ensures { (form : Form) (bytes : List ℕ) (v w : Verdict) → FileVerdict form bytes v → FileVerdict form bytes w → v ≡ w }
+    ensures { (bytes : List ℕ) (v w : Verdict) → FileVerdict bytes v → FileVerdict bytes w → v ≡ w }
 {
     one_tree();
     one_fault();
@@ -25,5 +24,5 @@ pub fn one_text()
     ensures { (bytes a b : List ℕ) → IsCompiled bytes a → IsCompiled bytes b → a ≡ b }
 {
     one_tree();
-    one_plan();
+    one_diagram();
 }

@@ -70,7 +70,7 @@ pub fn plcx<D: Desk, O: Sink, E: Sink>(
         (change (O.written out.old) (O.written out.new) (O.faults out.old) (O.faults out.new))
         (change (E.written err.old) (E.written err.new) (E.faults err.old) (E.faults err.new)) }
 
-    ensures not_built { RefusesNotBuilt (D.file desk.old) (command_of words.now) result
+    ensures not_built { RefusesNotBuilt (command_of words.now) result
         (change (O.written out.old) (O.written out.new) (O.faults out.old) (O.faults out.new))
         (change (E.written err.old) (E.written err.new) (E.faults err.old) (E.faults err.new)) }
 

@@ -27,3 +27,4 @@ mod Lenders
 mod Lent
 mod Calls
 mod Ordered
+mod OneDiagram

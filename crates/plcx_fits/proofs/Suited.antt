@@ -32,12 +32,12 @@ use Rattle.plcx_rules.specs.declared.form.Out.{Out}
 use Rattle.plcx_rules.specs.declared.form.Pin.{Pin}
 use Rattle.plcx_rules.specs.declared.rule.LinkRule.TheVariants as rule
 use Rattle.plcx_rules.specs.Declarations.{can_be_written}
-use Rattle.plcx_rules.specs.Forms.{gives_held, declared, text_gives, is_stored, is_modified, element_pins, form_of}
+use Rattle.plcx_rules.specs.Forms.{gives_held, declared, text_gives, is_modified, element_pins, form_of}
 use Rattle.plcx_rules.specs.Forms.{pin as form_pin}
 use Rattle.plcx_rules.specs.declared.form.Grouping.TheVariants.{Apart}
 use Rattle.plcx_rules.specs.Helds.{Held, OfLiteral, OfVariable, OfInstance, OfOutput, text_held, is_value, is_operand, is_target}
 use Rattle.plcx_rules.specs.Laws.{source_counts}
-use Rattle.plcx_rules.specs.LinkRules.{breaks, lacks_source, breaks_expression, breaks_target}
+use Rattle.plcx_rules.specs.LinkRules.{breaks, is_stored, lacks_source, breaks_expression, breaks_target}
 use Rattle.plcx_rules.specs.Texts.{is_empty}
 use Rattle.plcx_rules.specs.Types.{Sheet, form_at, output_among, output_at, AtPin, AtGroup, HasType, DeclaredOutput}
 use Rattle.plcx_rules.specs.TypingRules.{OutputIsNoBool, OperandIsNoBool}

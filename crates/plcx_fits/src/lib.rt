@@ -1,6 +1,6 @@
-//! The diagram of a checked project fits: what the meaning of diagrams presumes follows from the rules.
+//! The diagram of a checked project fits: what the meaning of diagrams presumes follows from the rules. And it is one.
 #![tactic(auto)]
 
 mod laws;
 
-pub use laws::checked_fits;
+pub use laws::{checked_fits, one_diagram};

@@ -1,2 +1,5 @@
-pub mod WireNames
-pub mod Texts
+pub mod Walks
+pub mod Blocks
+pub mod Jumps
+pub mod Choices
+pub mod Places

@@ -5,6 +5,7 @@ use Rattle.plcx_model.specs.declared.broken.Place.{Place}
 use Rattle.plcx_model.specs.declared.plan.Links.{Links}
 use Rattle.plcx_model.specs.declared.project.Project.{Project}
 use Rattle.plcx_rules.specs.declared.rule.LinkRule.{LinkRule}
+use Rattle.plcx_rules.specs.CheckVerdict.{broken_at}
 use Rattle.plcx_rules.specs.LinkRules.{number, LinkVerdict}
 use Rattle.plcx_rules.specs.Sources.{links_of}
 use Rattle.plcx_link.specs.declared.error.LinkError.{LinkError}
@@ -15,13 +16,9 @@ pub record IsLinked (project : Project) (links : Links) : Type 0 where
   pub kept : LinkVerdict project None
   pub sources : links.bodies ≡ links_of project.pous
 
--- a rule is broken at a place
-abbrev pub broken_at : LinkRule → Place → Broken
-broken_at r place = record { rule = record { 0 = number r }; place = place }
-
 -- the project breaks a rule first, at this place
 abbrev pub IsBroken : Project → Broken → Type 0
-IsBroken project b = (r : LinkRule) × (place : Place) × (b ≡ broken_at r place) × LinkVerdict project (Some (r, place))
+IsBroken project b = (r : LinkRule) × (place : Place) × (b ≡ broken_at (number r) place) × LinkVerdict project (Some (r, place))
 
 -- why a project gives no links
 abbrev pub Refuses : Project → LinkError → Type 0

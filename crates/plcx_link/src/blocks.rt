@@ -4,7 +4,7 @@ ghost use Rattle.std.specs.List.{list_any};
 ghost use Rattle.plcx_types.specs.Name.{in_lower_case};
 ghost use Rattle.plcx_model.specs.declared.body.PinIn.{PinIn};
 ghost use Rattle.plcx_rules.specs.Declarations.{kind_place, same_kind, declaration_named};
-ghost use Rattle.plcx_rules.specs.Callees.{is_enable, is_connected, is_instance_of};
+ghost use Rattle.plcx_rules.specs.Callees.{is_instance_of};
 ghost use Rattle.plcx_rules.specs.LinkRules.{is_unconnected, has_one, lacks_source, has_no_callee, leads_to, instance_suits, instance_fails, breaks_instance};
 ghost use Rattle.plcx_link.specs.Bodies.{callee_in};
 ghost use Rattle.plcx_link.specs.Blocks.{lacks_by, leads_by};
@@ -12,25 +12,11 @@ ghost use Rattle.plcx_names.specs.Seen.{declared_as};
 
 use crate::sources::calls_function;
 use plcx_model::{Kind, PinIn, VarTy};
-use plcx_names::{Declared, Owner, in_lower_case, same_name};
+use plcx_names::{Declared, Owner, in_lower_case, is_connected, is_enable};
 use plcx_rules::Callee;
 use plcx_std::StdKind;
 use sqlite_items::Items;
 use std::alloc::{AllocError, Global};
-
-/// Whether an input pin is EN.
-pub fn is_enable(pin: &PinIn) -> bool
-    ensures { result ≡ is_enable pin.now }
-{
-    same_name(pin.formal.as_slice(), b"EN")
-}
-
-/// Whether a pin has a connection.
-pub fn is_connected(pin: &PinIn) -> bool
-    ensures { result ≡ is_connected pin.now }
-{
-    pin.input.len() != 0
-}
 
 fn is_unconnected(pin: &PinIn) -> bool
     ensures { result ≡ is_unconnected pin.now }

@@ -11,11 +11,12 @@ ghost use Rattle.plcx_link.specs.Blocks.{formals_by};
 ghost use Rattle.plcx_link.specs.Sides.{formals_on, side_fails, missing};
 ghost use Rattle.plcx_link.specs.Outputs.{is_only, output_name_by};
 
-use crate::blocks::{is_connected, is_enable};
 use crate::sources::{is_only, output_name};
 use plcx_funcs::{Class, signature};
 use plcx_model::{Kind, PinIn, PinOut};
-use plcx_names::{OwnPin, Scope, narrow, same_name};
+use plcx_names::{
+    OwnPin, Scope, input_count, is_connected, is_enable, is_function, narrow, same_name,
+};
 use plcx_rules::Callee;
 use std::alloc::{AllocError, Global};
 
@@ -27,17 +28,11 @@ pub enum Side {
     Outputs,
 }
 
+/// Whether a pin is an EN without a connection, which counts as absent.
 pub fn is_absent(pin: &PinIn) -> bool
     ensures { result ≡ is_absent pin.now }
 {
     is_enable(pin) && !is_connected(pin)
-}
-
-/// How many inputs stand beside EN.
-fn input_count(inputs: &[PinIn]) -> usize
-    ensures { result ≡ input_count inputs.now }
-{
-    inputs.iter().filter(|pin| !is_enable(pin)).count()
 }
 
 /// The names of the input pins that count.
@@ -196,8 +191,7 @@ fn is_listed(in_outs: &[PinIn], name: &[u8]) -> bool
 fn any_missing(in_outs: &[PinIn], own: &[OwnPin]) -> bool
     ensures { result ≡ list_any (λ (p : OwnPin). not (list_any (λ (q : PinIn). same_name (shown_pin p).name q.formal) in_outs.now)) own.now }
 {
-    own.iter()
-        .any(|pin| !is_listed(in_outs, pin.variable.name.text()))
+    own.iter().any(|pin| !is_listed(in_outs, pin.name))
 }
 
 ghost use Rattle.plcx_names.specs.declared.pins.OwnPin.{OwnPin};
@@ -237,12 +231,6 @@ fn in_outs_fail(
 {
     let names = names_of(alloc, in_outs)?;
     Ok(side_fails(alloc, scope, callee, Side::InOuts, &names)? || missing(scope, callee, in_outs))
-}
-
-fn is_function(callee: Callee) -> bool
-    ensures { result ≡ is_function callee }
-{
-    matches!(callee, Callee::Function(_))
 }
 
 #[tactic(auto, using(crate::proofs::SideNames::outputs_are), unfolding(plcx_rules::specs::LinkRules::outputs_fail))]

@@ -1,8 +1,10 @@
 //! The links of a project, or the first rule that it breaks.
 ghost use Rattle.std.specs.Prelude.{◌≡◌, IfOk, MatchResult};
 ghost use Rattle.plcx_model.specs.declared.project.Project.{Project};
+ghost use Rattle.plcx_rules.specs.CheckVerdict.{broken_at};
+ghost use Rattle.plcx_rules.specs.LinkRules.{number};
 ghost use Rattle.plcx_link.specs.Judged.{bodies_of, shown_place};
-ghost use Rattle.plcx_link.specs.Linked.{IsLinked, Refuses, broken_at};
+ghost use Rattle.plcx_link.specs.Linked.{IsLinked, Refuses};
 
 use crate::body::ScopedBody;
 use crate::error::LinkError;
@@ -30,7 +32,7 @@ fn bodies_of<'b>(
 
 /// A broken rule, with a copy of the POU's name.
 fn broken_at(alloc: Global, rule: LinkRule, place: &ElementPlace) -> Result<Broken, NoMemory>
-    ensures { IfOk result (λ b. b ≡ broken_at rule (shown_place place.now)) }
+    ensures { IfOk result (λ b. b ≡ broken_at (number rule) (shown_place place.now)) }
 {
     let pou = place.pou.copy(alloc)?;
     let local_id = place.local_id;

@@ -10,7 +10,7 @@ ghost use Rattle.plcx_link.specs.InProject.{InProject};
 
 use crate::body::ScopedBody;
 use plcx_model::{Connection, Kind, PinIn, PinOut, Source};
-use plcx_names::{narrow, same_name};
+use plcx_names::{is_eno, narrow, result_count, same_name};
 use plcx_rules::Callee;
 use sqlite_items::Items;
 use std::alloc::{AllocError, Global};
@@ -20,19 +20,6 @@ pub fn calls_function(callee: Option<Callee>) -> bool
     ensures { result ≡ calls_function callee }
 {
     matches!(callee, Some(Callee::Function(_)))
-}
-
-fn is_eno(output: &PinOut) -> bool
-    ensures { result ≡ is_eno output.now }
-{
-    same_name(output.formal.as_slice(), b"ENO")
-}
-
-/// How many outputs stand beside ENO.
-fn result_count(outputs: &[PinOut]) -> usize
-    ensures { result ≡ result_count outputs.now }
-{
-    outputs.iter().filter(|output| !is_eno(output)).count()
 }
 
 /// Whether one output stands beside ENO.

@@ -3,12 +3,7 @@ use Rattle.std.proofs.Common.{◌≡◌, List, [], ◌++◌, refl, sym, subst}
 use Rattle.plcx_meaning.specs.Base.{Stop, Outcome, Ended, Stopped, Stuck, then_do}
 use Rattle.plcx_meaning.specs.Evaluate.{Heard, DiagramState, hear, unheard}
 use Rattle.plcx_meaning.specs.Execute.{TextState}
-use Rattle.plcx_meaning.specs.Same.{Agree}
-
-abbrev pub AlikeAt : {L K : Type 0} → (L → K → Type 0) → Outcome DiagramState L → Outcome TextState K → Type 0
-AlikeAt R (Ended d l) (Ended g k) = Agree d g × R l k
-AlikeAt R (Stopped s d) (Stopped r g) = (s ≡ r) × Agree d g
-AlikeAt R _ _ = ⊥
+use Rattle.plcx_meaning.specs.Same.{Agree, AlikeAt}
 
 -- both end with agreeing states and what is local related, or both stop for the same cause with agreeing states
 pub record Alike {L K : Type 0} (R : L → K → Type 0) (o : Outcome DiagramState L) (p : Outcome TextState K) : Type 0 where

@@ -19,10 +19,10 @@ use Rattle.plcx_meaning.specs.Diagram.{Enable, has_eno, eno_negated, eno_ports, 
 use Rattle.plcx_meaning.specs.Evaluate.{DiagramState, Wires, fix, fix_eno, turn, enable_value, link_value, with_result, function_result}
 use Rattle.plcx_meaning.specs.Execute.{Temporary, TextSetting, referent_of, TextState, Frame, hold, with_value, value_of, assign, TextCalls, statement_runs, statements_run, list_runs}
 use Rattle.plcx_meaning.specs.Templates.{wire_name, wire, number, link_text, function_text, eno_text, enabled, out_default, turned_if}
-use Rattle.plcx_meaning.specs.Same.{Agree}
+use Rattle.plcx_meaning.specs.Same.{Agree, IsDeclared}
 use Rattle.plcx_meaning.specs.Fits.{is_fresh}
 use Rattle.plcx_meaning.proofs.Alike.{Alike, both_end, both_stop, alike_then, alike_as, alike_from}
-use Rattle.plcx_meaning.proofs.Asked.{IsDeclared, LinkAsked, EnableAsked, FunctionAsked, SameWires}
+use Rattle.plcx_meaning.proofs.Asked.{LinkAsked, EnableAsked, FunctionAsked, SameWires}
 use Rattle.plcx_meaning.proofs.Agree.{wires_fix, wires_fresh}
 use Rattle.plcx_meaning.proofs.FunctionValues.{same_type, types, Known, function_value}
 use Rattle.plcx_meaning.proofs.Links.{assign_temporary, wire_known, link_known}

@@ -13,17 +13,12 @@ use Rattle.plcx_meaning.specs.Layout.{Variable, variable_named}
 use Rattle.plcx_meaning.specs.Functions.{Given, group_of, can_apply, out_type}
 use Rattle.plcx_meaning.specs.Diagram.{Source, Rail, Literal, Wire, Back, Link, Operand, Storing, Stored, Enable, InputPin, InOutPin, OutputPin, ElementKind, Still, In, Out, Contact, Coil, Pass, Label, Jump, Return, Function, Call, Port, port, ports, has_edge, DiagramElement, has_jump}
 use Rattle.plcx_meaning.specs.Evaluate.{leaf_named, operand_leaf, Wires, DiagramState, DiagramCalls, elements_do}
-use Rattle.plcx_meaning.specs.Same.{Agree}
+use Rattle.plcx_meaning.specs.Same.{Agree, IsDeclared}
 use Rattle.plcx_meaning.proofs.Alike.{Alike, Nothing}
 use Rattle.plcx_types.specs.TypeName.{type_named}
 use Rattle.plcx_meaning.specs.Execute.{Temporary, Kept, Instance, Takes, Binds, TextSetting, referent_of, TextState, Frame, read, assign, leaf_at, has_leaf, value_of, formal_named, parts_named, all_bound, read_output, TextCalls, list_runs}
 use Rattle.plcx_meaning.specs.Templates.{wire_name, memory_name, counter_name, operand_text, input_text, in_out_text, elements_text}
 use Rattle.plcx_meaning.specs.Fits.{fixed_by, is_fresh}
-
--- an instance at a declared path, whose in-outs stand for declared leaves
-pub record IsDeclared (site : Site) : Type 0 where
-  pub path : is_declared site.path ≡ true
-  pub bound : (key : List ℕ) → is_declared (site.bound key) ≡ true
 
 -- a variable of the diagram, which the text reads and writes at the same leaf
 pub record VariableAsked (c : TextSetting) (vs : List Variable) (x : List ℕ) (t : Ty) : Type 0 where

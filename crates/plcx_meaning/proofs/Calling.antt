@@ -18,10 +18,10 @@ use Rattle.plcx_meaning.specs.Evaluate as diagram
 use Rattle.plcx_meaning.specs.Execute as text
 use Rattle.plcx_meaning.specs.Execute.{Temporary, Instance, TextSetting, referent_of, TextState, Frame, hold, value_of, TextCalls, type_of_instance, all_bound, parts_named, store_arguments, statement_runs, statements_run, list_runs, call_runs}
 use Rattle.plcx_meaning.specs.Templates.{wire_name, wire, link_text, eno_text, enabled, turned_if, input_text, in_out_text, output_text}
-use Rattle.plcx_meaning.specs.Same.{Agree}
+use Rattle.plcx_meaning.specs.Same.{Agree, IsDeclared}
 use Rattle.plcx_meaning.specs.Fits.{is_fresh}
 use Rattle.plcx_meaning.proofs.Alike.{Alike, both_end, alike_then, alike_as, alike_from}
-use Rattle.plcx_meaning.proofs.Asked.{IsDeclared, EnableAsked, InputAsked, InOutAsked, OutputAsked, CallAsked, SameWires, CallsAlike}
+use Rattle.plcx_meaning.proofs.Asked.{EnableAsked, InputAsked, InOutAsked, OutputAsked, CallAsked, SameWires, CallsAlike}
 use Rattle.plcx_meaning.proofs.Agree.{agree_set, wires_fix}
 use Rattle.plcx_meaning.proofs.FunctionValues.{same_type}
 use Rattle.plcx_meaning.proofs.Links.{assign_temporary, negated_known, wire_known, link_known}

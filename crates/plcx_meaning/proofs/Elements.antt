@@ -13,11 +13,11 @@ use Rattle.plcx_meaning.specs.Evaluate.{DiagramState, Wires, DiagramCalls, Diagr
 use Rattle.plcx_meaning.specs.Execute.{Temporary, Kept, TextSetting, referent_of, TextState, Frame, value_of, TextCalls, list_runs}
 use Rattle.plcx_meaning.specs.Templates.{wire_name, memory_name, wire, link_text, operand_text, kind_text, feed_text, element_text, elements_text}
 use Rattle.plcx_meaning.specs.Templates as templates
-use Rattle.plcx_meaning.specs.Same.{Agree}
+use Rattle.plcx_meaning.specs.Same.{Agree, IsDeclared}
 use Rattle.plcx_meaning.specs.Fits.{fixed_by, is_fresh}
 use Rattle.plcx_meaning.proofs.Lists.{each_at}
 use Rattle.plcx_meaning.proofs.Alike.{Alike, both_end, alike_then, alike_as, heard_alike}
-use Rattle.plcx_meaning.proofs.Asked.{IsDeclared, LinkAsked, KindAsked, OwnAsked, SameWires, CallsAlike, ElementsAlike}
+use Rattle.plcx_meaning.proofs.Asked.{LinkAsked, KindAsked, OwnAsked, SameWires, CallsAlike, ElementsAlike}
 use Rattle.plcx_meaning.proofs.Agree.{agree_memory}
 use Rattle.plcx_meaning.proofs.Links.{assign_memory, negated_known, wire_known, operand_known, link_known}
 use Rattle.plcx_meaning.proofs.Simple.{contacts_edge, coils_edge, fix_alike, store_alike, contact_alike, coil_alike}

@@ -21,6 +21,7 @@ pub mod Bodies
 pub mod Blocks
 pub mod Units
 pub mod Nesting
+pub mod Networks
 pub mod Layouts
 pub mod Declared
 pub mod Times

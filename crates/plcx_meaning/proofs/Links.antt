@@ -14,10 +14,10 @@ use Rattle.plcx_meaning.specs.Diagram.{Source, Rail, Literal, Wire, Back, Link, 
 use Rattle.plcx_meaning.specs.Evaluate.{DiagramState, Wires, leaf_named, operand_leaf, source_value, or_all, link_value}
 use Rattle.plcx_meaning.specs.Execute.{Temporary, Kept, TextSetting, referent_of, TextState, Frame, hold, read, value_of, TextCalls, statement_runs}
 use Rattle.plcx_meaning.specs.Templates.{wire_name, memory_name, wire, memory, not_if, source_text, or_text, link_text, operand_text, number}
-use Rattle.plcx_meaning.specs.Same.{Agree}
+use Rattle.plcx_meaning.specs.Same.{Agree, IsDeclared}
 use Rattle.plcx_meaning.proofs.Lists.{each_at}
 use Rattle.plcx_meaning.proofs.FunctionValues.{same_type, or_known, not_known}
-use Rattle.plcx_meaning.proofs.Asked.{IsDeclared, VariableAsked, OperandAsked, SourceAsked, LinkAsked, SameWires}
+use Rattle.plcx_meaning.proofs.Asked.{VariableAsked, OperandAsked, SourceAsked, LinkAsked, SameWires}
 
 -- assignments
 pub assign_temporary : (c : TextSetting) (call : TextCalls) (g : TextState) (f : Frame) (x : List ℕ) (e : Expression) (t : Ty) (n : ℤ) → referent_of c x ≡ Temporary t → value_of e c g.store f ≡ Given (value t n)

@@ -14,10 +14,10 @@ use Rattle.plcx_meaning.specs.Evaluate.{DiagramState, DiagramCalls, body_does, w
 use Rattle.plcx_meaning.specs.Execute.{TextState, Frame, fresh, TextSetting, TextCalls, list_runs, pou_runs, blocks_run, program_runs, world_of}
 use Rattle.plcx_meaning.specs.Execute as text
 use Rattle.plcx_meaning.specs.Templates.{body_text, pou_text, unit_of}
-use Rattle.plcx_meaning.specs.Same.{Agree}
+use Rattle.plcx_meaning.specs.Same.{Agree, IsDeclared}
 use Rattle.plcx_meaning.specs.Fits.{project_knows, VariableFits, PouFits, PouNests, ProjectFits}
 use Rattle.plcx_meaning.proofs.Alike.{Alike, Nothing, both_end, alike_then, alike_as, alike_from}
-use Rattle.plcx_meaning.proofs.Asked.{IsDeclared, BodyAsked, CallsAlike, ElementsAlike}
+use Rattle.plcx_meaning.proofs.Asked.{BodyAsked, CallsAlike, ElementsAlike}
 use Rattle.plcx_meaning.proofs.Lists.{each_at}
 use Rattle.plcx_meaning.proofs.BodiesSteps.{then_ended}
 use Rattle.plcx_meaning.proofs.Elements.{elements_alike}

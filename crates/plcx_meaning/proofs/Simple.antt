@@ -12,9 +12,9 @@ use Rattle.plcx_meaning.specs.Diagram.{Storing, Stored, Inverted, Set, Reset, Co
 use Rattle.plcx_meaning.specs.Evaluate.{DiagramState, Wires, fix, set_leaf, leaf_named, operand_leaf, store_by, contact_value, contact_does, coil_does}
 use Rattle.plcx_meaning.specs.Execute.{Temporary, Kept, TextSetting, referent_of, TextState, Frame, hold, value_of, TextCalls, statements_run, list_runs}
 use Rattle.plcx_meaning.specs.Templates.{wire_name, memory_name, wire, memory, truth, both, store_text, contact_text, contact_edge, coil_text, operand_text}
-use Rattle.plcx_meaning.specs.Same.{Agree}
+use Rattle.plcx_meaning.specs.Same.{Agree, IsDeclared}
 use Rattle.plcx_meaning.proofs.Alike.{Alike, both_end, alike_as}
-use Rattle.plcx_meaning.proofs.Asked.{IsDeclared, VariableAsked, OperandAsked, StoringAsked, SameWires}
+use Rattle.plcx_meaning.proofs.Asked.{VariableAsked, OperandAsked, StoringAsked, SameWires}
 use Rattle.plcx_meaning.proofs.Agree.{agree_set, agree_memory, wires_fix}
 use Rattle.plcx_meaning.proofs.Names.{bytes_self}
 use Rattle.plcx_meaning.proofs.FunctionValues.{and_known, not_known}

@@ -21,11 +21,12 @@ use Rattle.plcx_meaning.specs.Execute as text
 use Rattle.plcx_meaning.specs.Execute.{Referent, Temporary, Kept, Bound, Instance, elementary, referent_by, referent, TextSetting, referent_of, TextState, Frame, read, assign, leaf_at, has_leaf, parts_named, read_member, read_output, Formal, Takes, Binds, formal_by, formal, formal_named}
 use Rattle.plcx_meaning.specs.Templates.{pou_text, unit_of}
 use Rattle.plcx_meaning.specs.Fits.{IsVariable, IsInstance, PouFits, ProjectFits}
+use Rattle.plcx_meaning.specs.Same.{IsDeclared}
 use Rattle.plcx_meaning.proofs.Lists.{each_at}
 use Rattle.plcx_meaning.proofs.Lookups.{own_variables, text_variables, named_first, found_name, each_found, IsDeclaredVariable}
 use Rattle.plcx_meaning.proofs.LookupsOwn.{elementary_meaning, composed_meaning, variables_declared}
 use Rattle.plcx_meaning.proofs.StaticsWorlds.{hidden, text_composed, composed_declared}
-use Rattle.plcx_meaning.proofs.Asked.{IsDeclared, VariableAsked}
+use Rattle.plcx_meaning.proofs.Asked.{VariableAsked}
 
 -- where the statements of a POU of a project stand
 abbrev pub here : Project → Pou → Site → TextSetting

@@ -19,12 +19,13 @@ use Rattle.plcx_meaning.specs.Execute as text
 use Rattle.plcx_meaning.specs.Execute.{Referent, Temporary, Kept, Instance, referent_by, referent, TextSetting, referent_of, Frame, parts_named, read_member, read_output, value_of, Formal, Takes, Binds, formal_by, formal, formal_named, is_bound, all_bound}
 use Rattle.plcx_meaning.specs.Templates.{wire_name, memory_name, input_text, in_out_text, unit_of}
 use Rattle.plcx_meaning.specs.Fits.{IsInstance, SourceFits, LinkFits, OperandFits, StoringFits, EnableFits, InputFits, InOutFits, OutputFits, all_listed, CallFits, TruthFits, KindFits, fixed_by, ElementsFit, PortsFit, PouFits, ProjectFits}
+use Rattle.plcx_meaning.specs.Same.{IsDeclared}
 use Rattle.plcx_meaning.proofs.Fed.{fed_ports}
 use Rattle.plcx_meaning.proofs.Lists.{each_at, each_from, each_map, each_append}
 use Rattle.plcx_meaning.proofs.LookupsOwn.{elementary_meaning, composed_meaning, wire_place, edge_place, fed_place, counter_place}
 use Rattle.plcx_meaning.proofs.StaticsWorlds.{hidden, hidden_each}
 use Rattle.plcx_meaning.proofs.Statics.{here, leaf_declared, in_text, own_name, variable_asked, parts_are, pou_fits, member_found, member_own}
-use Rattle.plcx_meaning.proofs.Asked.{IsDeclared, OperandAsked, SourceAsked, LinkAsked, TruthAsked, StoringAsked, EnableAsked, InputAsked, InOutAsked, OutputAsked, CallAsked, KindAsked, OwnAsked, ElementsAsked, BodyAsked}
+use Rattle.plcx_meaning.proofs.Asked.{OperandAsked, SourceAsked, LinkAsked, TruthAsked, StoringAsked, EnableAsked, InputAsked, InOutAsked, OutputAsked, CallAsked, KindAsked, OwnAsked, ElementsAsked, BodyAsked}
 
 -- a test over two lists, and over what a list is mapped to
 any_right : {A : Type 0} (test : A → Bool) (xs ys : List A) → list_any test ys ≡ true → list_any test (xs ++ ys) ≡ true

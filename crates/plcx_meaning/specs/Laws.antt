@@ -1,17 +1,20 @@
 -- What the laws say, each of its subject.
 use Rattle.std.specs.Prelude.{◌≡◌, ◌≢◌, ◌+◌, ℕ, ℤ, List, Some, slice_get, if◌then◌else◌}
+use Rattle.std.specs.List.{Contains}
+use Rattle.plcx_types.specs.Lists.{Each}
+use Rattle.plcx_types.specs.Name.{in_lower_case}
 use Rattle.plcx_meaning.specs.Base.{Path, Site, Stuck, Ended, then_do, spend}
 use Rattle.plcx_meaning.specs.Tree.{Expression, Statement, While, Statements, PouText}
-use Rattle.plcx_meaning.specs.Layout.{initial_in, IsRetainedState}
+use Rattle.plcx_meaning.specs.Layout.{variables_of, initial_in, IsRetainedState}
 use Rattle.plcx_meaning.specs.Run.{Input, Event, Machine, begin_side, CanFollow}
-use Rattle.plcx_meaning.specs.Diagram.{DiagramElement, Pou, Project, program_named}
-use Rattle.plcx_meaning.specs.Evaluate.{Heard, DiagramState, Wires, no_wires, elements_do, successor, at_network, jumping, DiagramSetting, DiagramCalls, with_standard, blocks_do, diagram_machine}
+use Rattle.plcx_meaning.specs.Diagram.{Port, ports, DiagramElement, Pou, Project, program_named}
+use Rattle.plcx_meaning.specs.Evaluate.{Heard, DiagramState, Wires, no_wires, elements_do, successor, at_network, jumping, DiagramSetting, DiagramCalls, with_standard, place_named, pou_does, blocks_do, diagram_machine}
 use Rattle.plcx_meaning.specs.Watch.{earlier, heard_earlier}
-use Rattle.plcx_meaning.specs.Execute.{TextState, Frame, TextSetting, TextCalls, with_truth, value_of, statement_runs, statements_run, list_runs, blocks_run, text_machine}
+use Rattle.plcx_meaning.specs.Execute.{TextState, Frame, TextSetting, TextCalls, with_truth, value_of, statement_runs, statements_run, list_runs, world_of, pou_runs, blocks_run, text_machine}
 use Rattle.plcx_meaning.specs.Execute as text
-use Rattle.plcx_meaning.specs.Templates.{pou_text, unit_of}
-use Rattle.plcx_meaning.specs.Fits.{ProjectFits}
-use Rattle.plcx_meaning.specs.Same.{AgreeThroughout}
+use Rattle.plcx_meaning.specs.Templates.{wire_name, elements_text, pou_text, unit_of}
+use Rattle.plcx_meaning.specs.Fits.{PouNests, ProjectFits}
+use Rattle.plcx_meaning.specs.Same.{Agree, AlikeAt, IsDeclared, AgreeThroughout}
 use Rattle.plcx_meaning.specs.Traces.{trace_with, diagram_trace, text_trace}
 use Rattle.plcx_meaning.specs.Turns.{LeavesAtMost}
 
@@ -60,6 +63,40 @@ diagram_calls n time project = with_standard time (blocks_do n time project)
 -- and those of a unit
 abbrev pub text_calls : ℕ → (time : ℕ) → List PouText → TextCalls
 text_calls n time unit = text.with_standard time (blocks_run n time unit)
+
+-- where the elements of a POU of a project are evaluated, with so many levels of blocks below
+abbrev pub evaluated_at : ℕ → (time : ℕ) → Project → Pou → Site → DiagramSetting
+evaluated_at n time project p site = record { pou = place_named p.name project; variables = variables_of p.lists; site = site; called = diagram_calls n time project }
+
+-- where the statements of its text are run
+abbrev pub run_at : Project → Pou → Site → TextSetting
+run_at project p site = record { world = world_of (unit_of project); variables = variables_of (pou_text p).blocks; site = site }
+
+-- the temporary of each output of these elements has the value of its wire
+abbrev pub HoldWires : List DiagramElement → Wires → Frame → Type 0
+HoldWires es ws f = Each (λ (e : DiagramElement). Each (λ (o : Port). ws e.id o.pin ≡ f (in_lower_case (wire_name e.id o.pin))) (ports e.kind)) es
+
+-- it holds of each POU of each project that fits, with any number of levels of blocks that there may be below it, at every site and time
+abbrev pub OfPous : (ℕ → (time : ℕ) → Project → Pou → Site → Type 0) → Type 0
+OfPous Holds = (project : Project) → ProjectFits project → (p : Pou) → Contains project p → (n : ℕ) → PouNests n project p
+    → (time : ℕ) (site : Site) → IsDeclared site → Holds n time project p site
+
+-- From agreeing states the statements of a network do what its elements do: they end, fault or are cut alike, also within called blocks, with agreeing
+-- states and so with equal budgets left, and where they end each temporary has the value of its wire.
+abbrev pub NetworkAgrees : ℕ → (time : ℕ) → Project → Pou → Site → List DiagramElement → Type 0
+NetworkAgrees n time project p site network = (d : DiagramState) (g : TextState) (f : Frame) → Agree d g
+    → AlikeAt (HoldWires network) (elements_do network (evaluated_at n time project p site) d no_wires)
+    (list_runs (elements_text network) (run_at project p site) (text_calls n time (unit_of project)) g f)
+
+-- so of each network of a POU
+abbrev pub NetworksAgree : ℕ → (time : ℕ) → Project → Pou → Site → Type 0
+NetworksAgree n time project p site = Each (NetworkAgrees n time project p site) p.networks
+
+-- so do the statements of each body, straight or with jumps, which spend the budget turn by turn
+abbrev pub BodiesAgree : ℕ → (time : ℕ) → Project → Pou → Site → Type 0
+BodiesAgree n time project p site = (d : DiagramState) (g : TextState) → Agree d g
+    → AlikeAt (λ _ _. Unit {0}) (pou_does project (diagram_calls n time project) p site d)
+    (pou_runs (pou_text p) (world_of (unit_of project)) (text_calls n time (unit_of project)) site g)
 
 -- statements leave no more turns than there were
 abbrev pub StatementsLower : TextCalls → Type 0

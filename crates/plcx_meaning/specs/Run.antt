@@ -1,5 +1,5 @@
 -- What a side tells over a list of events, whichever side it is.
-use Rattle.std.specs.Prelude.{◌≡◌, ◌≤◌, ◌^◌, ℕ, ℤ, Bool, true, false, List, [], ◌∷◌, if◌then◌else◌}
+use Rattle.std.specs.Prelude.{◌≡◌, ◌≤◌, ℕ, ℤ, Bool, true, false, List, [], ◌∷◌, if◌then◌else◌}
 use Rattle.std.specs.List.{Contains}
 use Rattle.plcx_types.specs.Limits.{max_event_time}
 use Rattle.plcx_types.specs.Range.{InRange}

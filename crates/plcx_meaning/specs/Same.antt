@@ -1,7 +1,7 @@
 -- When two sides behave alike, and when a text does what a diagram does.
 use Rattle.std.specs.Prelude.{◌≡◌, ◌≢◌, ℕ, ℤ, true, List, [], ◌∷◌, Some}
 use Rattle.plcx_types.specs.Name.{in_lower_case}
-use Rattle.plcx_meaning.specs.Base.{Path, is_declared, Memory}
+use Rattle.plcx_meaning.specs.Base.{Path, is_declared, Memory, Outcome, Ended, Stopped, Site}
 use Rattle.plcx_meaning.specs.Tree.{PouText}
 use Rattle.plcx_meaning.specs.Layout.{declared_leaves, IsRetainedState}
 use Rattle.plcx_meaning.specs.Run.{Event, Machine, Side, NoStep, tells, after, begin_side, CanFollow}
@@ -41,6 +41,17 @@ pub record Agree (d : DiagramState) (g : TextState) : Type 0 where
   pub stores : (p : Path) → is_declared p ≡ true → d.store p ≡ g.store p
   pub memories : (p : Path) (k : Memory) → is_declared p ≡ true → d.memories p k ≡ g.store (in_lower_case (memory_name k) ∷ p)
   pub lefts : d.left ≡ g.left
+
+-- two pieces of a scan, one of each side: both end with agreeing states, and what is local is related; or both stop for the same cause with agreeing states
+abbrev pub AlikeAt : {L K : Type 0} → (L → K → Type 0) → Outcome DiagramState L → Outcome TextState K → Type 0
+AlikeAt R (Ended d l) (Ended g k) = Agree d g × R l k
+AlikeAt R (Stopped s d) (Stopped r g) = (s ≡ r) × Agree d g
+AlikeAt R _ _ = ⊥
+
+-- an instance at a declared path, whose in-outs stand for declared leaves
+pub record IsDeclared (site : Site) : Type 0 where
+  pub path : is_declared site.path ≡ true
+  pub bound : (key : List ℕ) → is_declared (site.bound key) ≡ true
 
 -- their states agree after each event
 abbrev pub AgreeThroughout : Machine DiagramState → Machine TextState → ℕ → List Event → Side DiagramState → Side TextState → Type 0

@@ -14,7 +14,7 @@ ghost use Rattle.plcx_meaning.specs.Fits.{ProjectFits};
 ghost use Rattle.plcx_meaning.specs.Ready.{IsReady};
 ghost use Rattle.plcx_meaning.specs.Same.{Behaves};
 ghost use Rattle.plcx_meaning.specs.Turns.{LeavesAtMost};
-ghost use Rattle.plcx_meaning.specs.Laws.{OfPrograms, StatesAgree, TracesAgree, StartsAgree, JumpingUnfolds, WhileUnfolds, diagram_calls, text_calls, StatementsLower, ElementsHear, CallsHear};
+ghost use Rattle.plcx_meaning.specs.Laws.{OfPrograms, StatesAgree, TracesAgree, StartsAgree, OfPous, NetworksAgree, BodiesAgree, JumpingUnfolds, WhileUnfolds, diagram_calls, text_calls, StatementsLower, ElementsHear, CallsHear};
 
 /// The text of a project that fits does what the project does: for every program, retained state, list of scans and restarts, and budget.
 /// Both tell the same after each event, which is a step, with the same values on all declared paths.
@@ -26,6 +26,13 @@ pub fn same_behavior()
     ensures agrees { OfPrograms StatesAgree }
     ensures traces { OfPrograms TracesAgree }
     ensures starts { OfPrograms StartsAgree }
+{}
+
+/// The statements of each network of a project that fits do what its elements do, and those of each body what the body does: from agreeing states,
+/// at every site, time and budget, faults and cuts within called blocks included.
+pub fn networks_agree()
+    ensures networks { OfPous NetworksAgree }
+    ensures bodies { OfPous BodiesAgree }
 {}
 
 /// A scan of a side that is halted changes nothing but the time of the last scan.

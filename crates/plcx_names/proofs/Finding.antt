@@ -1,5 +1,5 @@
 -- What is found, and where it stands.
-use Rattle.std.proofs.Common.{◌≡◌, ℕ, suc, ◌+◌, List, [], ◌∷◌, Bool, true, false, cond, map, Option, Some, None, option_map, option_and_then, slice_get, refl, sym, ap, ◌∙◌, arith}
+use Rattle.std.proofs.Common.{◌≡◌, ℕ, suc, ◌+◌, List, [], ◌∷◌, Bool, true, false, cond, map, Option, Some, option_map, option_and_then, slice_get, refl, sym, ap, ◌∙◌, arith}
 use Rattle.std.specs.List.{find, position_from}
 
 mapped : {X Y : Type 0} (f : X → Y) (b : Bool) (x : X) (o : Option Y) (p : Option X) → o ≡ option_map f p → cond b (Some (f x)) o ≡ option_map f (cond b (Some x) p)
@@ -26,18 +26,12 @@ place_from t all i (x ∷ xs) rest =
 pub at_place : {X : Type 0} (t : X → Bool) (xs : List X) → option_and_then (slice_get xs) (position_from t 0 xs) ≡ find t xs
 at_place t xs = place_from t xs 0 xs (λ k. let same : 0 + k ≡ k = omega arith in ap (slice_get xs) same)
 
-twice : {X Y Z : Type 0} (f : X → Y) (g : Y → Z) (o : Option X) → option_map (λ x. g (f x)) o ≡ option_map g (option_map f o)
-twice f g None = refl
-twice f g (Some x) = refl
-
 -- what is shown of what stands at the first place
-pub shown_at_place : {X Y Z : Type 0} (f : X → Y) (g : Y → Z) (t : Y → Bool) (xs : List X) (place : Option ℕ) → place ≡ position_from (λ x. t (f x)) 0 xs
-    → option_map (λ x. g (f x)) (option_and_then (slice_get xs) place) ≡ option_map g (find t (map f xs))
-shown_at_place f g t xs place is =
-    twice f g (option_and_then (slice_get xs) place)
-    ∙ ap (λ (p : Option ℕ). option_map g (option_map f (option_and_then (slice_get xs) p))) is
-    ∙ ap (λ o. option_map g (option_map f o)) (at_place (λ x. t (f x)) xs)
-    ∙ ap (option_map g) (sym (find_map f t xs))
+pub shown_at_place : {X Y : Type 0} (f : X → Y) (t : Y → Bool) (xs : List X) (place : Option ℕ) → place ≡ position_from (λ x. t (f x)) 0 xs → option_map f (option_and_then (slice_get xs) place) ≡ find t (map f xs)
+shown_at_place f t xs place is =
+    ap (λ (p : Option ℕ). option_map f (option_and_then (slice_get xs) p)) is
+    ∙ ap (option_map f) (at_place (λ x. t (f x)) xs)
+    ∙ sym (find_map f t xs)
 
 -- two tests that agree find the same place
 pub same_place : {X : Type 0} (t u : X → Bool) (i : ℕ) (xs : List X) → ((x : X) → t x ≡ u x) → position_from t i xs ≡ position_from u i xs

@@ -1,8 +1,9 @@
--- The table of a file's function blocks.
-use Rattle.std.proofs.Common.{◌≡◌, ℕ, ◌+◌, ◌<◌, ◌≤◌, List, ◌∷◌, Bool, true, false, Option, Some, None, is_some, cond, drop, get_or, length, refl, sym, ap, ◌∙◌}
+-- A table that has the first place of each name, as it grows.
+use Rattle.std.proofs.Common.{◌≡◌, ℕ, ◌+◌, ◌<◌, ◌≤◌, List, ◌∷◌, Bool, true, false, Option, Some, None, is_some, cond, drop, get_or, slice_get, length, inl, inr, refl, sym, ap, ◌∙◌, arith}
 use Rattle.std.specs.List.{position_from}
 use Rattle.std.specs.Str.{bytes_eq}
 use Rattle.std.proofs.lemmas.List.{at_drop_more, at_drop_all}
+use Rattle.std.proofs.lemmas.Option.{slice_get_cases}
 use Rattle.std.proofs.lemmas.Slice.Eq.{bytes_eq-Decides}
 use Rattle.plcx_names.specs.Told.{found_or, place_if}
 
@@ -45,7 +46,7 @@ then_rest None true i rest = refl
 then_rest None false i rest = refl
 then_rest (Some x) b i rest = refl
 
--- one POU more
+-- one more
 pub more : {X : Type 0} (t : X → Bool) (i : ℕ) (xs : List X) (x : X) (o after w : Option ℕ) → i < length xs → x ≡ get_or xs i x → after ≡ found_or o (place_if (t x) i) → found_or o (position_from t i (drop i xs)) ≡ w → found_or after (position_from t (i + 1) (drop (i + 1) xs)) ≡ w
 more t i xs x o after w h at is before =
     ap (λ (a : Option ℕ). found_or a (position_from t (i + 1) (drop (i + 1) xs))) is
@@ -53,6 +54,14 @@ more t i xs x o after w h at is before =
     ∙ ap (λ y. found_or o (position_from t i (y ∷ drop (i + 1) xs))) at
     ∙ sym (at_drop_more (λ ys. found_or o (position_from t i ys)) xs i x h) ∙ before
 
--- no POU more
+-- one more, which is read by its place
+pub more_at : {X : Type 0} (t : X → Bool) (b : Option X → Bool) (i : ℕ) (xs : List X) (o after w : Option ℕ) → i < length xs → ((x : X) → b (Some x) ≡ t x) → after ≡ found_or o (place_if (b (slice_get xs i)) i)
+    → found_or o (position_from t i (drop i xs)) ≡ w → found_or after (position_from t (i + 1) (drop (i + 1) xs)) ≡ w
+more_at t b i xs o after w h same is before = elim (slice_get_cases xs i).1 [
+  | inl c ↦ more t i xs c.0 o after w h (sym c.3) (is ∙ ap (λ v. found_or o (place_if v i)) (ap b c.2 ∙ same c.0)) before
+  | inr c ↦ absurd (omega (arith, h, c.0))
+]
+
+-- none more
 pub done : {X : Type 0} (t : X → Bool) (i : ℕ) (xs : List X) (o w : Option ℕ) → length xs ≤ i → found_or o (position_from t i (drop i xs)) ≡ w → o ≡ w
 done t i xs o w h before = sym (or_none o) ∙ sym (at_drop_all (λ ys. found_or o (position_from t i ys)) xs i h) ∙ before

@@ -1,20 +1,15 @@
 -- Pins of function blocks and standard blocks as formal parameters.
-use Rattle.std.proofs.Common.{◌≡◌, ℕ, suc, ◌+◌, ◌-◌, ◌<◌, true, false, cond, List, Option, Some, None, map, option_map, refl, sym, ap, ◌∙◌, arith}
+use Rattle.std.proofs.Common.{◌≡◌, ℕ, suc, ◌+◌, ◌-◌, ◌<◌, true, false, cond, List, Option, Some, map, option_map, refl, sym, ◌∙◌, arith}
 use Rattle.std.specs.List.{range_with_len}
 use Rattle.plcx_funcs.specs.declared.func.Func.{Func}
 use Rattle.plcx_funcs.specs.declared.pins.Class.{Class}
-use Rattle.plcx_funcs.specs.declared.pins.Class.TheVariants.{Fixed}
 use Rattle.plcx_rules.specs.Texts.{same_name}
 use Rattle.plcx_rules.specs.Callees.{BlockPin, Formal, fixed, pin_named, formal_named, function_input}
-use Rattle.plcx_names.specs.Formals.{class_of}
+use Rattle.plcx_rules.specs.Forms.{class_of}
 use Rattle.plcx_names.proofs.Finding.{find_map}
 
-of_pin : (o : Option BlockPin) → class_of (option_map fixed o) ≡ option_map Fixed (option_map (λ (p : BlockPin). p.ty) o)
-of_pin None = refl
-of_pin (Some p) = refl
-
-pub fixed_is : (name : List ℕ) (pins : List BlockPin) → class_of (formal_named name (map fixed pins)) ≡ option_map Fixed (option_map (λ (p : BlockPin). p.ty) (pin_named name pins))
-fixed_is name pins = ap class_of (find_map fixed (λ (f : Formal). same_name name f.name) pins) ∙ of_pin (pin_named name pins)
+pub fixed_is : (name : List ℕ) (pins : List BlockPin) → formal_named name (map fixed pins) ≡ option_map fixed (pin_named name pins)
+fixed_is name pins = find_map fixed (λ (f : Formal). same_name name f.name) pins
 
 -- the class of an input of those from i on
 abbrev class_from : Func → List ℕ → ℕ → ℕ → Option Class

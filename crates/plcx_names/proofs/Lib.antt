@@ -1,7 +1,6 @@
 pub mod Inserted
 pub mod Firsts
 pub mod Finding
-pub mod HeldNames
-pub mod Named
+pub mod ByName
 pub mod FormalNames
 pub mod HoldingLaws

@@ -1,7 +1,7 @@
--- serve proofs alone
+-- What the look-ups answer of the definitions that they serve.
 pub mod Told
 pub mod Seen
+pub mod Owned
 pub mod SeenHelds
 pub mod Bodies
-pub mod Formals
 pub mod Holdings

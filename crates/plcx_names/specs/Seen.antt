@@ -6,10 +6,11 @@ use Rattle.std.specs.Str.{bytes_eq}
 use Rattle.plcx_types.specs.Name.{in_lower_case}
 use Rattle.plcx_model.specs.declared.project.Pou.{Pou}
 use Rattle.plcx_rules.specs.Declarations.{Declaration, declarations_of}
-use Rattle.plcx_rules.specs.Callees.{BlockPin, is_block}
+use Rattle.plcx_rules.specs.Callees.{BlockPin, Formal, formal, is_block}
 use Rattle.plcx_names.specs.declared.variables.Declared.{Declared}
 use Rattle.plcx_names.specs.declared.variables.OwnVariable.{OwnVariable}
 use Rattle.plcx_names.specs.declared.pins.OwnPin.{OwnPin}
+use Rattle.plcx_names.specs.declared.formals.Formal as formals
 use Rattle.plcx_names.specs.Told.{place_at}
 
 -- ---- variables
@@ -38,7 +39,7 @@ declared_as p key = option_map summary (find (is_declared key) (declarations_of 
 
 -- a pin of the code
 abbrev pub shown_pin : OwnPin → BlockPin
-shown_pin p = record { name = p.variable.now.name; ty = p.ty }
+shown_pin p = record { name = p.name.now; ty = p.ty }
 
 -- a pin has that name, which is given in lower case
 abbrev pub is_pin : List ℕ → BlockPin → Bool
@@ -47,6 +48,10 @@ is_pin key p = bytes_eq key (in_lower_case p.name)
 -- the table has the place of each pin
 abbrev pub PinsTold : List OwnPin → List (Vec ℕ Global × ℕ) → Type 0
 PinsTold pins entries = (q : List ℕ) → place_at q entries ≡ position_from (λ (p : OwnPin). is_pin q (shown_pin p)) 0 pins
+
+-- a formal parameter of the code
+abbrev pub shown_formal : formals.Formal → Formal
+shown_formal f = formal f.name.now f.class
 
 -- ---- function blocks
 

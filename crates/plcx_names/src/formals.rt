@@ -1,12 +1,13 @@
-//! What is known of the type of a formal parameter of a block.
-ghost use Rattle.std.specs.Prelude.{◌≡◌, ◌++◌, ◌∷◌, ◌<◌, [], Some, None, option_map, string_bytes, IfOk};
-ghost use Rattle.plcx_funcs.specs.declared.pins.Class.TheVariants.{Fixed};
-ghost use Rattle.plcx_funcs.specs.Pins.{input_letters, input_number, input_class};
+//! The formal parameters of a block, each with what is known of its type.
+ghost use Rattle.std.specs.Prelude.{◌≡◌, ◌++◌, ◌∷◌, ◌<◌, ℕ, [], false, option_map, string_bytes, IfOk};
+ghost use Rattle.plcx_funcs.specs.Pins.{input_letters, input_number, input_class, output_class};
 ghost use Rattle.plcx_rules.specs.Texts.{same_name};
-ghost use Rattle.plcx_rules.specs.Callees.{Formal, enable, enabled, number_text, function_input, function_inputs, inputs_of, in_outs_of, outputs_of, formal_named};
-ghost use Rattle.plcx_names.specs.Formals.{class_of};
+ghost use Rattle.plcx_rules.specs.Forms.{class_of};
+ghost use Rattle.plcx_rules.specs.Callees.{enable, enabled, fixed, is_function, number_text, function_input, function_inputs, inputs_of, in_outs_of, outputs_of, formal_named};
+ghost use Rattle.plcx_rules.specs.Callees as rules;
+ghost use Rattle.plcx_names.specs.Seen.{shown_pin, shown_formal};
 
-use crate::pins::standard_pin;
+use crate::pins::{OwnPin, standard_pin};
 use crate::scope::{Scope, narrow};
 use crate::texts::same_name;
 use plcx_funcs::{Allowed, Class, Func, FuncPins, Pin0};
@@ -15,11 +16,34 @@ use plcx_std::Role;
 use plcx_types::Ty;
 use std::alloc::{AllocError, Global};
 
-fn fixed(ty: Option<Ty>) -> Option<Class>
-    ensures { result ≡ option_map Fixed ty }
+/// A formal parameter by its declared name, with what is known of its type.
+#[derive(Clone, Copy)]
+pub struct Formal<'a> {
+    pub name: &'a [u8],
+    pub class: Class,
+}
+
+/// A pin as a formal parameter.
+fn fixed<'a>(pin: Option<OwnPin<'a>>) -> Option<Formal<'a>>
+    ensures { option_map shown_formal result ≡ option_map fixed (option_map shown_pin pin.entry) }
 {
-    let ty = ty?;
-    Some(Class::Fixed(ty))
+    match pin {
+        None => None,
+        Some(pin) => Some(Formal {
+            name: pin.name,
+            class: Class::Fixed(pin.ty),
+        }),
+    }
+}
+
+/// What is known of the type of a formal parameter.
+fn class_of(formal: Option<Formal>) -> Option<Class>
+    ensures { result ≡ class_of (option_map shown_formal formal.entry) }
+{
+    match formal {
+        None => None,
+        Some(formal) => Some(formal.class),
+    }
 }
 
 /// The input of a function at a place, whatever types it may have.
@@ -54,9 +78,9 @@ fn name_text(alloc: Global, letters: &str, number: Option<u32>) -> Result<String
     }
 }
 
-/// The name of the input of a function at a place.
+/// The name of the input of a function at a place, counted from 0.
 #[tactic(auto, unfolding(plcx_rules::specs::Callees::function_input))]
-fn input_name(alloc: Global, func: Func, place: u32) -> Result<String, AllocError>
+pub fn function_input_name(alloc: Global, func: Func, place: u32) -> Result<String, AllocError>
     requires { place < 4294967295 }
     ensures { IfOk result (λ name. string_bytes name ≡ (function_input func place).name) }
 {
@@ -68,7 +92,7 @@ fn is_input(alloc: Global, func: Func, place: u32, name: &[u8]) -> Result<bool, 
     requires { place < 4294967295 }
     ensures { IfOk result (λ is. is ≡ same_name name.now (function_input func place).name) }
 {
-    let own = input_name(alloc, func, place)?;
+    let own = function_input_name(alloc, func, place)?;
     Ok(same_name(name, own.as_bytes()))
 }
 
@@ -89,19 +113,6 @@ fn function_input(
     Ok(None)
 }
 
-fn function_output(func: Func, name: &[u8]) -> Option<Class>
-    ensures { result ≡ class_of (formal_named name.now (result_of func ∷ [])) }
-{
-    if same_name(name, b"OUT") {
-        Some(output_class(func))
-    } else {
-        None
-    }
-}
-
-ghost use Rattle.plcx_names.specs.Formals.{result_of};
-ghost use Rattle.plcx_funcs.specs.Pins.{output_class};
-
 fn output_class(func: Func) -> Class
     ensures { result ≡ output_class func }
 {
@@ -113,10 +124,113 @@ fn output_class(func: Func) -> Class
     pins.out()
 }
 
+fn function_output<'a>(func: Func, name: &[u8]) -> Option<Formal<'a>>
+    ensures { option_map shown_formal result ≡ formal_named name.now (rules.result func ∷ []) }
+{
+    if same_name(name, b"OUT") {
+        Some(Formal {
+            name: b"OUT",
+            class: output_class(func),
+        })
+    } else {
+        None
+    }
+}
+
 impl<'a> Scope<'a> {
-    /// The class of an input beside EN of a block of that callee, which lists so many.
+    /// The input beside EN of that name of a block that is no function.
     #[tactic(auto, using(crate::proofs::FormalNames::fixed_is), unfolding(plcx_rules::specs::Callees::inputs_of))]
     fn own_input(
+        &self,
+        alloc: Global,
+        callee: Callee,
+        name: &[u8],
+    ) -> Result<Option<Formal<'a>>, AllocError>
+        requires { is_function callee ≡ false }
+        ensures { IfOk result (λ formal. (n : ℕ) → option_map shown_formal formal ≡ formal_named name.now (inputs_of self.now callee n)) }
+    {
+        match callee {
+            Callee::Function(_) => Ok(None),
+            Callee::Standard(kind) => Ok(fixed(standard_pin(Role::In, kind, name))),
+            Callee::Block(place) => Ok(fixed(self.input_at(alloc, place, name)?)),
+        }
+    }
+
+    /// The input of that name of a block that is no function.
+    pub fn instance_input(
+        &self,
+        alloc: Global,
+        callee: Callee,
+        name: &[u8],
+    ) -> Result<Option<Formal<'a>>, AllocError>
+        requires { is_function callee ≡ false }
+        ensures { IfOk result (λ formal. (n : ℕ) → option_map shown_formal formal ≡ formal_named name.now (enable ∷ inputs_of self.now callee n)) }
+    {
+        if same_name(name, b"EN") {
+            Ok(Some(Formal {
+                name: b"EN",
+                class: Class::Fixed(Ty::Bool),
+            }))
+        } else {
+            Ok(self.own_input(alloc, callee, name)?)
+        }
+    }
+
+    /// The in-out of that name of a block of that callee.
+    #[tactic(auto, using(crate::proofs::FormalNames::fixed_is), unfolding(plcx_rules::specs::Callees::in_outs_of))]
+    pub fn in_out_formal(
+        &self,
+        alloc: Global,
+        callee: Callee,
+        name: &[u8],
+    ) -> Result<Option<Formal<'a>>, AllocError>
+        ensures { IfOk result (λ formal. option_map shown_formal formal ≡ formal_named name.now (in_outs_of self.now callee)) }
+    {
+        match callee {
+            Callee::Function(_) | Callee::Standard(_) => Ok(None),
+            Callee::Block(place) => Ok(fixed(self.in_out_at(alloc, place, name)?)),
+        }
+    }
+
+    /// The output beside ENO of that name of a block of that callee.
+    #[tactic(auto, using(crate::proofs::FormalNames::fixed_is), unfolding(plcx_rules::specs::Callees::outputs_of))]
+    fn own_output(
+        &self,
+        alloc: Global,
+        callee: Callee,
+        name: &[u8],
+    ) -> Result<Option<Formal<'a>>, AllocError>
+        ensures { IfOk result (λ formal. option_map shown_formal formal ≡ formal_named name.now (outputs_of self.now callee)) }
+    {
+        match callee {
+            Callee::Function(func) => Ok(function_output(func, name)),
+            Callee::Standard(kind) => Ok(fixed(standard_pin(Role::Out, kind, name))),
+            Callee::Block(place) => Ok(fixed(self.output_at(alloc, place, name)?)),
+        }
+    }
+
+    /// The output of that name of a block of that callee. The name is OUT at the result of a function.
+    pub fn output_formal(
+        &self,
+        alloc: Global,
+        callee: Callee,
+        name: &[u8],
+    ) -> Result<Option<Formal<'a>>, AllocError>
+        ensures { IfOk result (λ formal. option_map shown_formal formal ≡ formal_named name.now (enabled ∷ outputs_of self.now callee)) }
+    {
+        if same_name(name, b"ENO") {
+            Ok(Some(Formal {
+                name: b"ENO",
+                class: Class::Fixed(Ty::Bool),
+            }))
+        } else {
+            Ok(self.own_output(alloc, callee, name)?)
+        }
+    }
+
+    /// The class of an input beside EN of a block of that callee, which lists so many.
+    #[tactic(auto, unfolding(plcx_rules::specs::Callees::inputs_of))]
+    fn own_class(
         &self,
         alloc: Global,
         callee: Callee,
@@ -127,25 +241,9 @@ impl<'a> Scope<'a> {
     {
         match callee {
             Callee::Function(func) => Ok(function_input(alloc, func, narrow(count)?, name)?),
-            Callee::Standard(kind) => Ok(fixed(standard_pin(Role::In, kind, name))),
-            Callee::Block(place) => Ok(fixed(self.input_at(alloc, place, name)?)),
-        }
-    }
-
-    /// The class of an output beside ENO of a block of that callee.
-    #[tactic(auto, using(crate::proofs::FormalNames::fixed_is), unfolding(plcx_rules::specs::Callees::outputs_of))]
-    fn own_output(
-        &self,
-        alloc: Global,
-        callee: Callee,
-        name: &[u8],
-    ) -> Result<Option<Class>, AllocError>
-        ensures { IfOk result (λ class. class ≡ class_of (formal_named name.now (outputs_of self.now callee))) }
-    {
-        match callee {
-            Callee::Function(func) => Ok(function_output(func, name)),
-            Callee::Standard(kind) => Ok(fixed(standard_pin(Role::Out, kind, name))),
-            Callee::Block(place) => Ok(fixed(self.output_at(alloc, place, name)?)),
+            Callee::Standard(_) | Callee::Block(_) => {
+                Ok(class_of(self.own_input(alloc, callee, name)?))
+            }
         }
     }
 
@@ -162,12 +260,11 @@ impl<'a> Scope<'a> {
         if same_name(name, b"EN") {
             Ok(Some(Class::Fixed(Ty::Bool)))
         } else {
-            Ok(self.own_input(alloc, callee, count, name)?)
+            Ok(self.own_class(alloc, callee, count, name)?)
         }
     }
 
     /// The class of the in-out of that name of a block of that callee.
-    #[tactic(auto, using(crate::proofs::FormalNames::fixed_is), unfolding(plcx_rules::specs::Callees::in_outs_of))]
     pub fn in_out_class(
         &self,
         alloc: Global,
@@ -176,10 +273,7 @@ impl<'a> Scope<'a> {
     ) -> Result<Option<Class>, AllocError>
         ensures { IfOk result (λ class. class ≡ class_of (formal_named name.now (in_outs_of self.now callee))) }
     {
-        match callee {
-            Callee::Function(_) | Callee::Standard(_) => Ok(None),
-            Callee::Block(place) => Ok(fixed(self.in_out_at(alloc, place, name)?)),
-        }
+        Ok(class_of(self.in_out_formal(alloc, callee, name)?))
     }
 
     /// The class of the output of that name of a block of that callee. The name is OUT at the result of a function.
@@ -191,10 +285,6 @@ impl<'a> Scope<'a> {
     ) -> Result<Option<Class>, AllocError>
         ensures { IfOk result (λ class. class ≡ class_of (formal_named name.now (enabled ∷ outputs_of self.now callee))) }
     {
-        if same_name(name, b"ENO") {
-            Ok(Some(Class::Fixed(Ty::Bool)))
-        } else {
-            Ok(self.own_output(alloc, callee, name)?)
-        }
+        Ok(class_of(self.output_formal(alloc, callee, name)?))
     }
 }

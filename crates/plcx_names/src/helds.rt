@@ -1,25 +1,41 @@
-//! What an expression, or the variable of an element, holds.
-ghost use Rattle.std.specs.Prelude.{◌≡◌, ◌+◌, ◌<◌, ◌&&◌, Some, None, not, is_some, nat_eq, length, take, drop, option_map, option_and_then, IfOk, IfSome};
+//! What an expression, or the variable of an element, names and holds.
+ghost use Rattle.std.specs.Prelude.{◌≡◌, ◌<◌, nat_eq, length, option_map, option_and_then, IfOk, IfSome};
 ghost use Rattle.std.specs.List.{position_from};
 ghost use Rattle.plcx_types.specs.Name.{in_lower_case};
 ghost use Rattle.plcx_types.specs.ReadLiteral.{literal_of};
-ghost use Rattle.plcx_model.specs.declared.project.ListClass.TheVariants.{Input};
-ghost use Rattle.plcx_rules.specs.Declarations.{plain_type, same_class};
-ghost use Rattle.plcx_rules.specs.Helds.{name_held, member_held, held_in, text_held};
-ghost use Rattle.plcx_names.specs.Seen.{declared_as};
-ghost use Rattle.plcx_names.specs.SeenHelds.{can_be_written, held_declared, held_as};
+ghost use Rattle.plcx_rules.specs.Declarations.{can_be_written, declaration_named};
+ghost use Rattle.plcx_rules.specs.Helds.{OfLiteral, held_by, name_held, output_held, member_held, held_in, text_held};
+ghost use Rattle.plcx_names.specs.Seen.{shown_variable};
+ghost use Rattle.plcx_names.specs.SeenHelds.{shown_named, held_as};
 ghost use Rattle.plcx_names.specs.Holdings.{text_holding};
 
 use crate::owner::Owner;
-use crate::pins::same_class;
+use crate::pins::{OwnPin, same_class};
 use crate::scope::Scope;
-use crate::texts::{in_lower_case, trimmed};
-use crate::variables::Declared;
+use crate::texts::trimmed;
+use crate::variables::OwnVariable;
 use plcx_model::{ListClass, VarTy};
 use plcx_types::{Literal, Ty, read_literal};
 use std::alloc::{AllocError, Global};
 
-/// What a text holds: a literal, a variable of an elementary type, an instance, or an output of an instance.
+/// What a text names, as it is declared: a literal, a variable of an elementary type, an instance, or an output of an
+/// instance.
+#[derive(Clone, Copy)]
+pub enum Named<'a> {
+    Literal(Literal),
+    Variable {
+        variable: OwnVariable<'a>,
+        ty: Ty,
+    },
+    Instance(OwnVariable<'a>),
+    Output {
+        instance: OwnVariable<'a>,
+        output: OwnPin<'a>,
+    },
+}
+
+/// What a text holds by its type alone: a literal, a variable of an elementary type, an instance, or an output of an
+/// instance.
 #[derive(Clone, Copy, Debug, PartialEq, Eq)]
 pub enum Held {
     Literal(Literal),
@@ -28,32 +44,27 @@ pub enum Held {
     Output(Ty),
 }
 
-fn can_be_written(one: Declared) -> bool
-    ensures { result ≡ can_be_written one }
+/// What a variable is by its name alone.
+fn named_by<'a>(one: &OwnVariable<'a>) -> Named<'a>
+    ensures { let d = shown_variable one.now in shown_named result ≡ held_by d d.variable.ty }
 {
-    matches!(one.ty, VarTy::Plain(_)) && !one.constant && !same_class(one.class, ListClass::Input)
-}
-
-fn held_declared(one: Declared) -> Held
-    ensures { result ≡ held_declared one one.ty }
-{
-    match one.ty {
-        VarTy::Plain(ty) => Held::Variable {
-            ty,
-            writable: can_be_written(one),
-        },
-        VarTy::Std(_) | VarTy::Block(_) => Held::Instance,
+    match one.variable.ty {
+        VarTy::Plain(ty) => Named::Variable { variable: *one, ty },
+        VarTy::Std(_) | VarTy::Block(_) => Named::Instance(*one),
     }
 }
 
-/// What a name holds.
-#[tactic(auto, using(crate::proofs::HeldNames::name_as))]
-fn name_held(alloc: Global, owner: &Owner, name: &[u8]) -> Result<Option<Held>, AllocError>
-    ensures { IfOk result (λ held. held ≡ option_map held_as (name_held owner.now name.now)) }
+/// What a name leads to.
+fn name_named<'a>(
+    alloc: Global,
+    owner: &Owner<'a>,
+    name: &[u8],
+) -> Result<Option<Named<'a>>, AllocError>
+    ensures { IfOk result (λ named. option_map shown_named named ≡ name_held owner.now name.now) }
 {
-    match variable_named(alloc, owner, name)? {
+    match owner.declaration(alloc, name)? {
         None => Ok(None),
-        Some(one) => Ok(Some(held_declared(one))),
+        Some(one) => Ok(Some(named_by(&one))),
     }
 }
 
@@ -69,111 +80,136 @@ fn first_point(text: &[u8]) -> Option<usize>
     None
 }
 
-/// What an output of an instance holds.
-fn output_held(
+/// An output of an instance.
+fn output_named<'a>(
     alloc: Global,
-    scope: &Scope,
-    instance: Declared,
+    scope: &Scope<'a>,
+    instance: &OwnVariable<'a>,
     output: &[u8],
-) -> Result<Option<Held>, AllocError>
-    ensures { IfOk result (λ held. held ≡ option_map (λ (p : BlockPin). Output p.ty) (pin_named output.now (outputs_of_type scope.now instance.ty))) }
+) -> Result<Option<Named<'a>>, AllocError>
+    ensures { IfOk result (λ named. option_map shown_named named ≡ output_held scope.now output.now (shown_variable instance.now)) }
 {
-    match scope.output_of_type(alloc, instance.ty, output)? {
+    match scope.output_of_type(alloc, instance.variable.ty, output)? {
         None => Ok(None),
-        Some(ty) => Ok(Some(Held::Output(ty))),
+        Some(output) => Ok(Some(Named::Output {
+            instance: *instance,
+            output,
+        })),
     }
 }
 
-ghost use Rattle.plcx_names.specs.declared.helds.Held.TheVariants.{Output};
-ghost use Rattle.plcx_rules.specs.Callees.{BlockPin, pin_named, outputs_of_type};
-
-/// What a name leads to.
-fn variable_named(alloc: Global, owner: &Owner, name: &[u8]) -> Result<Option<Declared>, AllocError>
-    ensures { IfOk result (λ one. one ≡ declared_as owner.now (in_lower_case name.now)) }
-{
-    let key = in_lower_case(alloc, name)?;
-    Ok(owner.variable(key.as_slice()))
-}
-
-/// What an output of a named instance holds.
-fn held_at(
+/// An output of a named instance.
+fn output_at<'a>(
     alloc: Global,
-    scope: &Scope,
-    owner: &Owner,
+    scope: &Scope<'a>,
+    owner: &Owner<'a>,
     instance: &[u8],
     output: &[u8],
-) -> Result<Option<Held>, AllocError>
-    ensures { IfOk result (λ held. held ≡ option_map held_as (option_and_then (output_held scope.now output.now) (declaration_named owner.now instance.now))) }
+) -> Result<Option<Named<'a>>, AllocError>
+    ensures { IfOk result (λ named. option_map shown_named named ≡ option_and_then (output_held scope.now output.now) (declaration_named owner.now instance.now)) }
 {
-    match variable_named(alloc, owner, instance)? {
+    match owner.declaration(alloc, instance)? {
         None => Ok(None),
-        Some(instance) => Ok(output_held(alloc, scope, instance, output)?),
+        Some(instance) => output_named(alloc, scope, &instance, output),
     }
 }
 
-ghost use Rattle.plcx_rules.specs.Helds.{output_held};
-ghost use Rattle.plcx_rules.specs.Declarations.{declaration_named};
-
-/// What an output of an instance holds that a text names.
-fn member_held(
+/// The output of an instance that a text names.
+fn member_named<'a>(
     alloc: Global,
-    scope: &Scope,
-    owner: &Owner,
+    scope: &Scope<'a>,
+    owner: &Owner<'a>,
     text: &[u8],
-) -> Result<Option<Held>, AllocError>
-    ensures { IfOk result (λ held. held ≡ option_map held_as (member_held scope.now owner.now text.now)) }
+) -> Result<Option<Named<'a>>, AllocError>
+    ensures { IfOk result (λ named. option_map shown_named named ≡ member_held scope.now owner.now text.now) }
 {
     match first_point(text) {
         None => Ok(None),
         Some(point) => {
             let (instance, output) = (&text[..point], &text[point + 1..]);
-            Ok(held_at(alloc, scope, owner, instance, output)?)
+            output_at(alloc, scope, owner, instance, output)
         }
     }
 }
 
 /// The literal that a text is.
-#[tactic(auto, unfolding(crate::specs::SeenHelds::held_as))]
-fn literal_held(text: &[u8]) -> Option<Held>
-    ensures { result ≡ option_map held_as (option_map OfLiteral (literal_of (in_lower_case text.now))) }
+fn literal_named<'a>(text: &[u8]) -> Option<Named<'a>>
+    ensures { option_map shown_named result ≡ option_map OfLiteral (literal_of (in_lower_case text.now)) }
 {
     match read_literal(text) {
-        Ok(literal) => Some(Held::Literal(literal)),
+        Ok(literal) => Some(Named::Literal(literal)),
         Err(_) => None,
     }
 }
 
-ghost use Rattle.plcx_rules.specs.Helds.{OfLiteral};
-
-/// What a text holds without white space around it.
+/// What a text names without white space around it.
 #[tactic(auto, unfolding(plcx_rules::specs::Helds::held_in))]
-fn held_in(
+fn named_in<'a>(
     alloc: Global,
-    scope: &Scope,
-    owner: &Owner,
+    scope: &Scope<'a>,
+    owner: &Owner<'a>,
     text: &[u8],
-) -> Result<Option<Held>, AllocError>
-    ensures { IfOk result (λ held. held ≡ option_map held_as (held_in scope.now owner.now text.now)) }
+) -> Result<Option<Named<'a>>, AllocError>
+    ensures { IfOk result (λ named. option_map shown_named named ≡ held_in scope.now owner.now text.now) }
 {
-    if let Some(held) = literal_held(text) {
-        return Ok(Some(held));
+    if let Some(named) = literal_named(text) {
+        return Ok(Some(named));
     }
-    match name_held(alloc, owner, text)? {
-        Some(held) => Ok(Some(held)),
-        None => Ok(member_held(alloc, scope, owner, text)?),
+    match name_named(alloc, owner, text) {
+        Ok(None) => member_named(alloc, scope, owner, text),
+        found => found,
+    }
+}
+
+/// What the text of an element names in a POU, as it is declared.
+pub fn text_named<'a>(
+    alloc: Global,
+    scope: &Scope<'a>,
+    owner: &Owner<'a>,
+    text: &[u8],
+) -> Result<Option<Named<'a>>, AllocError>
+    ensures { IfOk result (λ named. option_map shown_named named ≡ text_held scope.now owner.now text.now) }
+{
+    named_in(alloc, scope, owner, trimmed(text))
+}
+
+fn can_be_written(one: &OwnVariable) -> bool
+    ensures { result ≡ can_be_written (shown_variable one.now) }
+{
+    matches!(one.variable.ty, VarTy::Plain(_))
+        && !one.constant
+        && !same_class(one.class, ListClass::Input)
+}
+
+#[tactic(auto, unfolding(crate::specs::SeenHelds::held_as))]
+fn held_of(named: &Named) -> Held
+    ensures { result ≡ held_as (shown_named named.now) }
+{
+    match named {
+        Named::Literal(literal) => Held::Literal(*literal),
+        Named::Variable { variable, ty } => Held::Variable {
+            ty: *ty,
+            writable: can_be_written(variable),
+        },
+        Named::Instance(_) => Held::Instance,
+        Named::Output { output, .. } => Held::Output(output.ty),
     }
 }
 
 /// What the text of an element holds in a POU.
-pub fn text_held(
+pub fn text_held<'a>(
     alloc: Global,
-    scope: &Scope,
-    owner: &Owner,
+    scope: &Scope<'a>,
+    owner: &Owner<'a>,
     text: &[u8],
 ) -> Result<Option<Held>, AllocError>
     ensures { IfOk result (λ held. held ≡ option_map held_as (text_held scope.now owner.now text.now)) }
 {
-    Ok(held_in(alloc, scope, owner, trimmed(text))?)
+    match text_named(alloc, scope, owner, text) {
+        Ok(None) => Ok(None),
+        Ok(Some(named)) => Ok(Some(held_of(&named))),
+        Err(error) => Err(error),
+    }
 }
 
 /// What an element may be by what it holds: whether it holds anything, what an inVariable

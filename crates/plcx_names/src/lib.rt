@@ -6,6 +6,7 @@
 
 mod formals;
 mod helds;
+mod listed;
 mod owner;
 mod pins;
 mod places;
@@ -14,10 +15,15 @@ mod tables;
 mod texts;
 mod variables;
 
-pub use helds::{Held, Holding, NOTHING, text_held, text_holding};
+pub use formals::{Formal, function_input_name};
+pub use helds::{Held, Holding, NOTHING, Named, text_held, text_holding, text_named};
+pub use listed::{
+    input_count, is_connected, is_enable, is_eno, is_function, output_name, result_count,
+};
 pub use owner::Owner;
 pub use pins::{OwnPin, standard_pin};
 pub use places::Places;
 pub use scope::{Scope, narrow};
+pub use tables::with_name;
 pub use texts::{in_lower_case, same_name, trimmed};
-pub use variables::Declared;
+pub use variables::{Declared, OwnVariable};

@@ -2,13 +2,13 @@
 ghost use Rattle.std.specs.Prelude.{◌≡◌, map, option_map, IfOk};
 ghost use Rattle.std.specs.List.{find};
 ghost use Rattle.plcx_model.specs.declared.project.ListClass.TheVariants.{Input, Output, InOut};
-ghost use Rattle.plcx_rules.specs.Callees.{BlockPin, block_pins};
+ghost use Rattle.plcx_rules.specs.Callees.{block_pins};
 ghost use Rattle.plcx_names.specs.Seen.{declared_as, is_pin, shown_pin};
 
 use crate::pins::{OwnPin, Pins, pins_of};
-use crate::variables::{Declared, OwnVariable, Variables, variables_of};
+use crate::texts::in_lower_case;
+use crate::variables::{Declared, OwnVariable, Variables, summary, variables_of};
 use plcx_model::{ListClass, Pou};
-use plcx_types::Ty;
 use std::alloc::{AllocError, Global};
 use std::marker::Model;
 
@@ -23,17 +23,14 @@ pub struct Owner<'a> {
 }
 
 impl<'a> Model for Owner<'a> {
-    ghost use Rattle.std.specs.Prelude.{◌≡◌};
     ghost use Rattle.plcx_model.specs.declared.project.Pou.{Pou};
-    ghost use Rattle.plcx_model.specs.declared.project.ListClass.TheVariants.{Input, Output, InOut};
-    ghost use Rattle.plcx_rules.specs.Declarations.{declarations_of};
-    ghost use Rattle.plcx_rules.specs.Callees.{block_pins};
+    ghost use Rattle.plcx_names.specs.Owned.{AreOwn};
 
     ghost Value = { Pou };
 
     ghost view = { λ o. o.pou.now };
 
-    ghost invariant = { λ o. (o.variables ≡ declarations_of o.pou.now) × (o.inputs ≡ block_pins Input o.pou.now) × (o.in_outs ≡ block_pins InOut o.pou.now) × (o.outputs ≡ block_pins Output o.pou.now) };
+    ghost invariant = { λ o. AreOwn o.pou.now o.variables o.inputs o.in_outs o.outputs };
 }
 
 fn class_pins<'a>(
@@ -48,9 +45,9 @@ fn class_pins<'a>(
 }
 
 ghost use Rattle.std.specs.List.{filter, filter_map};
-ghost use Rattle.plcx_rules.specs.Declarations.{Declaration, same_class};
+ghost use Rattle.plcx_rules.specs.Declarations.{Declaration, declarations_of, declaration_named, same_class};
 ghost use Rattle.plcx_rules.specs.Callees.{pin_of};
-ghost use Rattle.plcx_names.specs.Seen.{shown_variable};
+ghost use Rattle.plcx_names.specs.Seen.{shown_variable, is_declared};
 
 impl<'a> Owner<'a> {
     /// A POU, with its names.
@@ -78,30 +75,52 @@ impl<'a> Owner<'a> {
         self.pou
     }
 
-    /// The variable of that name, which is given in lower case.
-    pub fn variable(&self, key: &[u8]) -> Option<Declared>
-        ensures { result ≡ declared_as self.now key.now }
+    fn by_key(&self, key: &[u8]) -> Option<OwnVariable<'a>>
+        ensures { option_map shown_variable result ≡ find (is_declared key.now) (declarations_of self.now) }
     {
         self.variables.find(key)
     }
 
-    /// The type of the input of that name, which is given in lower case.
-    pub fn input(&self, key: &[u8]) -> Option<Ty>
-        ensures { result ≡ option_map (λ (p : BlockPin). p.ty) (find (is_pin key.now) (block_pins Input self.now)) }
+    /// What is said of the variable of that name, which is given in lower case.
+    pub fn variable(&self, key: &[u8]) -> Option<Declared>
+        ensures { result ≡ declared_as self.now key.now }
+    {
+        match self.by_key(key) {
+            None => None,
+            Some(one) => Some(summary(&one)),
+        }
+    }
+
+    /// The variable that a name leads to.
+    #[tactic(auto, unfolding(plcx_rules::specs::Declarations::declaration_named))]
+    pub fn declaration(
+        &self,
+        alloc: Global,
+        name: &[u8],
+    ) -> Result<Option<OwnVariable<'a>>, AllocError>
+        ensures { IfOk result (λ one. option_map shown_variable one ≡ declaration_named self.now name.now) }
+    {
+        let key = in_lower_case(alloc, name)?;
+        Ok(self.by_key(key.as_slice()))
+    }
+
+    /// The input of that name, which is given in lower case.
+    pub fn input(&self, key: &[u8]) -> Option<OwnPin<'a>>
+        ensures { option_map shown_pin result ≡ find (is_pin key.now) (block_pins Input self.now) }
     {
         self.inputs.find(key)
     }
 
-    /// The type of the in-out of that name, which is given in lower case.
-    pub fn in_out(&self, key: &[u8]) -> Option<Ty>
-        ensures { result ≡ option_map (λ (p : BlockPin). p.ty) (find (is_pin key.now) (block_pins InOut self.now)) }
+    /// The in-out of that name, which is given in lower case.
+    pub fn in_out(&self, key: &[u8]) -> Option<OwnPin<'a>>
+        ensures { option_map shown_pin result ≡ find (is_pin key.now) (block_pins InOut self.now) }
     {
         self.in_outs.find(key)
     }
 
-    /// The type of the output of that name, which is given in lower case.
-    pub fn output(&self, key: &[u8]) -> Option<Ty>
-        ensures { result ≡ option_map (λ (p : BlockPin). p.ty) (find (is_pin key.now) (block_pins Output self.now)) }
+    /// The output of that name, which is given in lower case.
+    pub fn output(&self, key: &[u8]) -> Option<OwnPin<'a>>
+        ensures { option_map shown_pin result ≡ find (is_pin key.now) (block_pins Output self.now) }
     {
         self.outputs.find(key)
     }

@@ -2,25 +2,24 @@
 ghost use Rattle.std.specs.Prelude.{◌≡◌, ◌++◌, ℕ, List, map, option_map, option_and_then, slice_get, nat_eq, IfOk};
 ghost use Rattle.std.specs.List.{find, filter, filter_map};
 ghost use Rattle.plcx_rules.specs.Declarations.{Declaration, class_place, same_class};
-ghost use Rattle.plcx_rules.specs.Callees.{BlockPin, role_place, pin_of, pin_named, standard_pins};
+ghost use Rattle.plcx_rules.specs.Callees.{role_place, pin_of, pin_named, standard_pins};
 ghost use Rattle.plcx_names.specs.Seen.{shown_variable, shown_pin, is_pin, PinsTold};
 ghost use Rattle.plcx_names.specs.Told.{place_at, found_or, place_if};
-ghost use Rattle.plcx_names.specs.declared.pins.OwnPin.{OwnPin};
 
 use crate::tables::with_name;
 use crate::texts::same_name;
 use crate::variables::OwnVariable;
 use indexmap::IndexMap;
-use plcx_model::{ListClass, VarTy, Variable};
+use plcx_model::{ListClass, VarTy};
 use plcx_std::{Role, StdKind};
 use plcx_types::Ty;
 use std::alloc::{AllocError, Global};
 use std::marker::Model;
 
-/// A pin of a function block: a variable of an elementary type.
+/// A pin of a standard block or a function block beside EN and ENO, by its declared name.
 #[derive(Clone, Copy)]
 pub struct OwnPin<'a> {
-    pub variable: &'a Variable,
+    pub name: &'a [u8],
     pub ty: Ty,
 }
 
@@ -45,9 +44,10 @@ pub fn same_class(left: ListClass, right: ListClass) -> bool
 fn plain_pin<'a>(one: &OwnVariable<'a>) -> Option<OwnPin<'a>>
     ensures { option_map shown_pin result ≡ pin_of (shown_variable one.now) }
 {
-    match one.variable.ty {
+    let variable = one.variable;
+    match variable.ty {
         VarTy::Plain(ty) => Some(OwnPin {
-            variable: one.variable,
+            name: variable.name.text(),
             ty,
         }),
         VarTy::Std(_) | VarTy::Block(_) => None,
@@ -73,26 +73,24 @@ pub fn pins_of<'a>(
     Ok(pins)
 }
 
-/// One pin more.
-fn with_one(
-    alloc: Global,
-    table: IndexMap<Vec<u8>, usize>,
-    place: usize,
-    pin: &OwnPin,
-) -> Result<IndexMap<Vec<u8>, usize>, AllocError>
-    ensures { IfOk result (λ after. (q : List ℕ) → place_at q after.entries ≡ found_or (place_at q table.entries) (place_if (is_pin q (shown_pin pin.now)) place)) }
+fn name_at<'a>(pins: &[OwnPin<'a>], place: usize) -> Option<&'a [u8]>
+    ensures { option_map (λ n. n.now) result ≡ option_map (λ (p : OwnPin). p.name.now) (slice_get pins.now place) }
 {
-    let name = pin.variable.name.text();
-    Ok(with_name(alloc, table, place, Some(name))?)
+    match pins.get(place) {
+        None => None,
+        Some(pin) => Some(pin.name),
+    }
 }
+
+ghost use Rattle.plcx_names.specs.declared.pins.OwnPin.{OwnPin};
 
 /// The place of each name in lower case.
 fn places_of(alloc: Global, pins: &[OwnPin]) -> Result<IndexMap<Vec<u8>, usize>, AllocError>
     ensures { IfOk result (λ table. PinsTold pins.now table.entries) }
 {
     let mut table = IndexMap::new(alloc);
-    for (place, pin) in pins.iter().enumerate() {
-        table = with_one(alloc, table, place, pin)?;
+    for place in 0..pins.len() {
+        table = with_name(alloc, table, place, name_at(pins, place))?;
     }
     Ok(table)
 }
@@ -117,15 +115,12 @@ impl<'a> Model for Pins<'a> {
 }
 
 /// What stands at a place, where one is given.
-fn at(pins: &[OwnPin], place: Option<usize>) -> Option<Ty>
-    ensures { result ≡ option_map (λ (p : OwnPin). p.ty) (option_and_then (slice_get pins.now) place) }
+fn at<'a>(pins: &[OwnPin<'a>], place: Option<usize>) -> Option<OwnPin<'a>>
+    ensures { option_map shown_pin result ≡ option_map shown_pin (option_and_then (slice_get pins.now) place) }
 {
     match place {
         None => None,
-        Some(place) => match pins.get(place) {
-            None => None,
-            Some(pin) => Some(pin.ty),
-        },
+        Some(place) => pins.get(place).copied(),
     }
 }
 
@@ -145,9 +140,9 @@ impl<'a> Pins<'a> {
         &self.pins
     }
 
-    /// The type of the pin of that name, which is given in lower case.
-    pub fn find(&self, key: &[u8]) -> Option<Ty>
-        ensures { result ≡ option_map (λ (p : BlockPin). p.ty) (find (is_pin key.now) self.now) }
+    /// The pin of that name, which is given in lower case.
+    pub fn find(&self, key: &[u8]) -> Option<OwnPin<'a>>
+        ensures { option_map shown_pin result ≡ find (is_pin key.now) self.now }
     {
         let place = self.table.get(key).copied();
         at(&self.pins, place)
@@ -170,14 +165,18 @@ fn same_role(left: Role, right: Role) -> bool
     role_place(left) == role_place(right)
 }
 
-/// The type of the pin of a standard block that has this role and name.
-pub fn standard_pin(role: Role, kind: StdKind, name: &[u8]) -> Option<Ty>
-    ensures { result ≡ option_map (λ (p : BlockPin). p.ty) (pin_named name.now (standard_pins role kind)) }
+/// The pin of a standard block that has this role and name.
+pub fn standard_pin<'a>(role: Role, kind: StdKind, name: &[u8]) -> Option<OwnPin<'a>>
+    ensures { option_map shown_pin result ≡ pin_named name.now (standard_pins role kind) }
 {
     let pins = plcx_std::pins(kind);
     for pin in pins {
-        if same_role(pin.role, role) && same_name(name, pin.name.as_bytes()) {
-            return Some(pin.ty);
+        let own = pin.name.as_bytes();
+        if same_role(pin.role, role) && same_name(name, own) {
+            return Some(OwnPin {
+                name: own,
+                ty: pin.ty,
+            });
         }
     }
     None

@@ -149,7 +149,7 @@ impl<'a> Places<'a> {
     }
 
     /// The place of the first connector of that name.
-    #[tactic(auto, using(crate::proofs::Named::connector_is))]
+    #[tactic(auto, using(crate::proofs::ByName::connector_is))]
     pub fn connector_place(&self, alloc: Global, name: &[u8]) -> Result<Option<usize>, AllocError>
         ensures { IfOk result (λ place. place ≡ connector_place self.now name.now) }
     {
@@ -158,7 +158,7 @@ impl<'a> Places<'a> {
     }
 
     /// The place of the first label of that name.
-    #[tactic(auto, using(crate::proofs::Named::label_is))]
+    #[tactic(auto, using(crate::proofs::ByName::label_is))]
     pub fn label_place(&self, alloc: Global, name: &[u8]) -> Result<Option<usize>, AllocError>
         ensures { IfOk result (λ place. place ≡ label_place self.now name.now) }
     {

@@ -1,12 +1,12 @@
 //! The POUs of a project, and what a block's `typeName` is among them.
 ghost use Rattle.std.specs.Prelude.{◌≡◌, ℕ, List, Some, None, map, option_map, slice_get, IfOk};
 ghost use Rattle.std.specs.List.{position_from};
-ghost use Rattle.plcx_rules.specs.Callees.{BlockPin, is_block, callee_named, outputs_of_type, pin_named};
+ghost use Rattle.plcx_rules.specs.Callees.{is_block, callee_named, outputs_of_type, pin_named};
 ghost use Rattle.plcx_names.specs.Seen.{is_block_key, BlocksTold};
 ghost use Rattle.plcx_names.specs.Told.{place_at, found_or, place_if};
 
 use crate::owner::Owner;
-use crate::pins::standard_pin;
+use crate::pins::{OwnPin, standard_pin};
 use crate::tables::with_name;
 use crate::texts::in_lower_case;
 use indexmap::IndexMap;
@@ -14,7 +14,6 @@ use plcx_funcs::lookup;
 use plcx_model::{Pou, PouKind, VarTy};
 use plcx_rules::Callee;
 use plcx_std::{Role, std_lookup};
-use plcx_types::Ty;
 use std::alloc::{AllocError, Global};
 use std::marker::Model;
 
@@ -129,6 +128,16 @@ impl<'a> Scope<'a> {
         self.owners.get(place)
     }
 
+    /// The name of the POU at a place.
+    pub fn pou_name(&self, place: usize) -> Option<&'a [u8]>
+        ensures { option_map (λ n. n.now) result ≡ option_map (λ (p : Pou). p.name) (slice_get self.now place) }
+    {
+        match self.owner(place) {
+            None => None,
+            Some(owner) => Some(owner.pou().name.text()),
+        }
+    }
+
     /// The place of the function block of that name, which is given in lower case.
     fn block(&self, key: &[u8]) -> Option<usize>
         ensures { result ≡ position_from (is_block_key key.now) 0 self.now }
@@ -151,15 +160,15 @@ impl<'a> Scope<'a> {
         Ok(block_of(self.block(key.as_slice()))?)
     }
 
-    /// The type of the output of that name of an instance of a type.
+    /// The output of that name of an instance of a type.
     #[tactic(auto, unfolding(plcx_rules::specs::Callees::outputs_of_type))]
     pub fn output_of_type(
         &self,
         alloc: Global,
         ty: VarTy,
         name: &[u8],
-    ) -> Result<Option<Ty>, AllocError>
-        ensures { IfOk result (λ t. t ≡ option_map (λ (p : BlockPin). p.ty) (pin_named name.now (outputs_of_type self.now ty))) }
+    ) -> Result<Option<OwnPin<'a>>, AllocError>
+        ensures { IfOk result (λ pin. option_map shown_pin pin ≡ pin_named name.now (outputs_of_type self.now ty)) }
     {
         match ty {
             VarTy::Plain(_) => Ok(None),
@@ -168,8 +177,8 @@ impl<'a> Scope<'a> {
         }
     }
 
-    fn output_by(&self, place: u32, key: &[u8]) -> Option<Ty>
-        ensures { result ≡ option_map (λ (p : BlockPin). p.ty) (find (is_pin key.now) (block_pins_at Output self.now place)) }
+    fn output_by(&self, place: u32, key: &[u8]) -> Option<OwnPin<'a>>
+        ensures { option_map shown_pin result ≡ find (is_pin key.now) (block_pins_at Output self.now place) }
     {
         match self.owner(place as usize) {
             None => None,
@@ -177,8 +186,8 @@ impl<'a> Scope<'a> {
         }
     }
 
-    fn input_by(&self, place: u32, key: &[u8]) -> Option<Ty>
-        ensures { result ≡ option_map (λ (p : BlockPin). p.ty) (find (is_pin key.now) (block_pins_at Input self.now place)) }
+    fn input_by(&self, place: u32, key: &[u8]) -> Option<OwnPin<'a>>
+        ensures { option_map shown_pin result ≡ find (is_pin key.now) (block_pins_at Input self.now place) }
     {
         match self.owner(place as usize) {
             None => None,
@@ -186,8 +195,8 @@ impl<'a> Scope<'a> {
         }
     }
 
-    fn in_out_by(&self, place: u32, key: &[u8]) -> Option<Ty>
-        ensures { result ≡ option_map (λ (p : BlockPin). p.ty) (find (is_pin key.now) (block_pins_at InOut self.now place)) }
+    fn in_out_by(&self, place: u32, key: &[u8]) -> Option<OwnPin<'a>>
+        ensures { option_map shown_pin result ≡ find (is_pin key.now) (block_pins_at InOut self.now place) }
     {
         match self.owner(place as usize) {
             None => None,
@@ -195,38 +204,40 @@ impl<'a> Scope<'a> {
         }
     }
 
-    /// The type of the output of that name of the POU at a place.
-    #[tactic(auto, using(crate::proofs::Named::pin_is))]
+    /// The output of that name of the POU at a place.
     pub fn output_at(
         &self,
         alloc: Global,
         place: u32,
         name: &[u8],
-    ) -> Result<Option<Ty>, AllocError>
-        ensures { IfOk result (λ t. t ≡ option_map (λ (p : BlockPin). p.ty) (pin_named name.now (block_pins_at Output self.now place))) }
+    ) -> Result<Option<OwnPin<'a>>, AllocError>
+        ensures { IfOk result (λ pin. option_map shown_pin pin ≡ pin_named name.now (block_pins_at Output self.now place)) }
     {
         let key = in_lower_case(alloc, name)?;
         Ok(self.output_by(place, key.as_slice()))
     }
 
-    /// The type of the input of that name of the POU at a place.
-    #[tactic(auto, using(crate::proofs::Named::pin_is))]
-    pub fn input_at(&self, alloc: Global, place: u32, name: &[u8]) -> Result<Option<Ty>, AllocError>
-        ensures { IfOk result (λ t. t ≡ option_map (λ (p : BlockPin). p.ty) (pin_named name.now (block_pins_at Input self.now place))) }
+    /// The input of that name of the POU at a place.
+    pub fn input_at(
+        &self,
+        alloc: Global,
+        place: u32,
+        name: &[u8],
+    ) -> Result<Option<OwnPin<'a>>, AllocError>
+        ensures { IfOk result (λ pin. option_map shown_pin pin ≡ pin_named name.now (block_pins_at Input self.now place)) }
     {
         let key = in_lower_case(alloc, name)?;
         Ok(self.input_by(place, key.as_slice()))
     }
 
-    /// The type of the in-out of that name of the POU at a place.
-    #[tactic(auto, using(crate::proofs::Named::pin_is))]
+    /// The in-out of that name of the POU at a place.
     pub fn in_out_at(
         &self,
         alloc: Global,
         place: u32,
         name: &[u8],
-    ) -> Result<Option<Ty>, AllocError>
-        ensures { IfOk result (λ t. t ≡ option_map (λ (p : BlockPin). p.ty) (pin_named name.now (block_pins_at InOut self.now place))) }
+    ) -> Result<Option<OwnPin<'a>>, AllocError>
+        ensures { IfOk result (λ pin. option_map shown_pin pin ≡ pin_named name.now (block_pins_at InOut self.now place)) }
     {
         let key = in_lower_case(alloc, name)?;
         Ok(self.in_out_by(place, key.as_slice()))
@@ -236,4 +247,5 @@ impl<'a> Scope<'a> {
 ghost use Rattle.std.specs.List.{find};
 ghost use Rattle.plcx_model.specs.declared.project.ListClass.TheVariants.{Input, Output, InOut};
 ghost use Rattle.plcx_rules.specs.Callees.{block_pins_at};
-ghost use Rattle.plcx_names.specs.Seen.{is_pin};
+ghost use Rattle.plcx_names.specs.Seen.{shown_pin, is_pin};
+ghost use Rattle.plcx_model.specs.declared.project.Pou.{Pou};

@@ -99,7 +99,8 @@ impl<'a> Model for Variables<'a> {
     ghost invariant = { λ v. VariablesTold v.all.items v.table.entries };
 }
 
-fn summary(one: &OwnVariable) -> Declared
+/// What the variable's list says of it, and its type.
+pub fn summary(one: &OwnVariable) -> Declared
     ensures { result ≡ summary (shown_variable one.now) }
 {
     Declared {
@@ -110,15 +111,12 @@ fn summary(one: &OwnVariable) -> Declared
 }
 
 /// What stands at a place, where one is given.
-fn at(all: &[OwnVariable], place: Option<usize>) -> Option<Declared>
-    ensures { result ≡ option_map (λ v. summary (shown_variable v)) (option_and_then (slice_get all.now) place) }
+fn at<'a>(all: &[OwnVariable<'a>], place: Option<usize>) -> Option<OwnVariable<'a>>
+    ensures { option_map shown_variable result ≡ option_map shown_variable (option_and_then (slice_get all.now) place) }
 {
     match place {
         None => None,
-        Some(place) => match all.get(place) {
-            None => None,
-            Some(one) => Some(summary(one)),
-        },
+        Some(place) => all.get(place).copied(),
     }
 }
 
@@ -132,8 +130,8 @@ impl<'a> Variables<'a> {
     }
 
     /// The variable of that name, which is given in lower case.
-    pub fn find(&self, key: &[u8]) -> Option<Declared>
-        ensures { result ≡ option_map summary (find (is_declared key.now) self.now) }
+    pub fn find(&self, key: &[u8]) -> Option<OwnVariable<'a>>
+        ensures { option_map shown_variable result ≡ find (is_declared key.now) self.now }
     {
         let place = self.table.get(key).copied();
         at(&self.all, place)

@@ -1,5 +1,5 @@
 -- What the types of a body go by: the pins, outputs and wires of each kind of element, and where their types come from.
-use Rattle.std.specs.Prelude.{ℕ, ◌+◌, Bool, true, false, not, ◌||◌, ◌&&◌, List, [], ◌∷◌, ◌++◌, map, Option, Some, None, option_map, option_and_then, get_or, if◌then◌else◌}
+use Rattle.std.specs.Prelude.{ℕ, ◌+◌, Bool, false, not, ◌||◌, ◌&&◌, List, [], ◌∷◌, ◌++◌, map, Option, Some, None, option_map, option_and_then, get_or, if◌then◌else◌}
 use Rattle.std.specs.List.{list_any, filter}
 use Rattle.plcx_types.specs.declared.ty.Ty.{Ty}
 use Rattle.plcx_types.specs.declared.ty.Ty.TheVariants as ty
@@ -10,8 +10,6 @@ use Rattle.plcx_funcs.specs.declared.pins.Class.{Class}
 use Rattle.plcx_funcs.specs.declared.pins.Class.TheVariants as class
 use Rattle.plcx_funcs.specs.Pins.{group_types, output_class}
 use Rattle.plcx_model.specs.declared.body.Mods.{Mods}
-use Rattle.plcx_model.specs.declared.body.Storage.{Storage}
-use Rattle.plcx_model.specs.declared.body.Storage.TheVariants as storage
 use Rattle.plcx_model.specs.declared.body.PinIn.{PinIn}
 use Rattle.plcx_model.specs.declared.body.PinOut.{PinOut}
 use Rattle.plcx_model.specs.declared.body.Kind.{Kind}
@@ -33,6 +31,7 @@ use Rattle.plcx_rules.specs.declared.form.Form.{Form}
 use Rattle.plcx_rules.specs.declared.form.WireForm.{WireForm}
 use Rattle.plcx_rules.specs.Callees.{Formal, callee_named, input_formal, in_out_formal, output_formal, is_enable, is_connected, is_eno}
 use Rattle.plcx_rules.specs.Helds.{Held, OfLiteral, OfVariable, OfInstance, OfOutput, text_held}
+use Rattle.plcx_rules.specs.LinkRules.{is_stored}
 use Rattle.plcx_rules.specs.Types.{Sheet}
 
 -- ---- by their parts
@@ -80,11 +79,6 @@ unfoldable pub text_gives : List Pou → Pou → List ℕ → Gives
 text_gives pous p text = gives_held (text_held pous p text)
 
 -- the value is negated, or sets or resets what it is stored to
-abbrev pub is_stored : Storage → Bool
-is_stored storage.Plain = false
-is_stored storage.Set = true
-is_stored storage.Reset = true
-
 abbrev pub is_modified : Mods → Bool
 is_modified m = m.negated || is_stored m.storage
 

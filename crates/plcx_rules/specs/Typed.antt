@@ -14,12 +14,14 @@ use Rattle.plcx_rules.specs.Forms.{wire, wires_from, sheet_at}
 abbrev pub wire_at : List WireForm → ℕ → WireForm
 wire_at wires k = get_or wires k (wire 0 Nothing)
 
--- the types of the input pins of a body, and those of its wires: a type that a pin or a wire has is the one that is given
+-- the types of the input pins of a body, and those of its wires: a type that a pin or a wire has is the one that is given, and BOOL where it has none
 pub record AreTypes (s : Sheet) (wires : List WireForm) (inputs given : List Ty) : Type 0 where
   pub pin_count : length inputs ≡ length s.pins
   pub each_pin : (i : ℕ) (t : Ty) → i < length s.pins → HasType s (AtPin i) t → t ≡ get_or inputs i ty.Bool
+  pub other_pin : (i : ℕ) → i < length s.pins → ((t : Ty) → HasType s (AtPin i) t → ⊥) → get_or inputs i ty.Bool ≡ ty.Bool
   pub wire_count : length given ≡ length wires
   pub each_wire : (k : ℕ) (t : Ty) → k < length wires → WireHas s (wire_at wires k) t → t ≡ get_or given k ty.Bool
+  pub other_wire : (k : ℕ) → k < length wires → ((t : Ty) → WireHas s (wire_at wires k) t → ⊥) → get_or given k ty.Bool ≡ ty.Bool
   -- a group, a connector and a continuation have one
   pub shared : (e : ℕ) → (form_at s e).grouping ≢ Apart → (t : Ty) × HasType s (AtGroup e) t
 

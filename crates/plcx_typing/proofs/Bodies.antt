@@ -60,6 +60,15 @@ first_in p (u ∷ ts) k t low at on = by (p u) refl k low at (λ j l e. first_in
 pub first_has : (p : Ty → Bool) (t : Ty) → p t ≡ true → p (first_type p all_types) ≡ true
 first_has p t on = let there = type_listed t in first_in p all_types there.0 t there.1 there.2 on
 
+-- it passes, or is BOOL
+first_or : (p : Ty → Bool) (ts : List Ty) → (p (first_type p ts) ≡ true) ⊎ (first_type p ts ≡ ty.Bool)
+first_or p [] = inr refl
+first_or p (t ∷ ts) = by (p t) refl (first_or p ts)
+  where
+    by : (b : Bool) → p t ≡ b → (p (first_type p ts) ≡ true) ⊎ (first_type p ts ≡ ty.Bool) → (p (if b then t else first_type p ts) ≡ true) ⊎ ((if b then t else first_type p ts) ≡ ty.Bool)
+    by true is rest = inl is
+    by false is rest = rest
+
 map_at : {A C : Type 0} (f : A → C) (xs : List A) (k : ℕ) (d : A) (c : C) → k < length xs → get_or (map f xs) k c ≡ f (get_or xs k d)
 map_at f [] k d c h = absurd (omega arith)
 map_at f (x ∷ xs) zero d c h = refl
@@ -94,6 +103,9 @@ module _ (s : Sheet) (marks : List Bool) (are : AreMarks s marks) where
   abbrev Marked : TypeRule → List Bool → Type 0
   Marked r flags = (length flags ≡ length s.forms) × ((x : ℕ) → x < length s.forms → Decides (flag flags x) (BreaksIn r s x))
 
+  abbrev wire_type : WireForm → Ty
+  wire_type w = first_type (gives_has marks w.element w.gives) all_types
+
   pub judged_so : (wires : List WireForm) (u d o : List Bool) (inputs given : List Ty) → Marked NoType u → Marked Disagreement d → Marked Range o → length inputs ≡ length s.pins
       → ((i : ℕ) → i < length s.pins → get_or inputs i ty.Bool ≡ first_type (pin_has s marks (pin_at s i) (sources_at s i)) all_types)
       → given ≡ map (λ (w : WireForm). first_type (gives_has marks w.element w.gives) all_types) wires → IsJudged s wires (record { untyped = u; disagreeing = d; outside = o; inputs = inputs; wires = given })
@@ -106,14 +118,25 @@ module _ (s : Sheet) (marks : List Bool) (are : AreMarks s marks) where
         let on = (pin_decides s marks are i t low).1 has in
         let first = first_has (pin_has s marks (pin_at s i) (sources_at s i)) t on in
         subst (HasType s (AtPin i)) (sym (pins i low)) ((pin_decides s marks are i (first_type (pin_has s marks (pin_at s i) (sources_at s i)) all_types) low).0 first);
-    wire_count = ap length is ∙ length-map wires (λ (w : WireForm). first_type (gives_has marks w.element w.gives) all_types);
+    given_pin = λ i low. elim (first_or (pin_has s marks (pin_at s i) (sources_at s i)) all_types) [
+      | inl on ↦ inl (subst (HasType s (AtPin i)) (sym (pins i low)) ((pin_decides s marks are i (first_type (pin_has s marks (pin_at s i) (sources_at s i)) all_types) low).0 on))
+      | inr bool ↦ inr (pins i low ∙ bool)
+    ];
+    wire_count = ap length is ∙ length-map wires wire_type;
     each_wire = λ k t low has.
         let w = wire_at wires k in
-        let first = first_has (gives_has marks w.element w.gives) t (given_so w.element w.gives t has) in
-        let at : get_or given k ty.Bool ≡ first_type (gives_has marks w.element w.gives) all_types = ap (λ xs. get_or xs k ty.Bool) is ∙ map_at (λ (x : WireForm). first_type (gives_has marks x.element x.gives) all_types) wires k (wire 0 Nothing) ty.Bool low in
-        subst (WireHas s w) (sym at) (so_given w.element w.gives (first_type (gives_has marks w.element w.gives) all_types) first);
+        wire_has k low (first_has (gives_has marks w.element w.gives) t (given_so w.element w.gives t has));
+    given_wire = λ k low.
+        let w = wire_at wires k in
+        elim (first_or (gives_has marks w.element w.gives) all_types) [ inl on ↦ inl (wire_has k low on) | inr bool ↦ inr (wire_is k low ∙ bool) ];
   }
     where
+      wire_is : (k : ℕ) → k < length wires → get_or given k ty.Bool ≡ wire_type (wire_at wires k)
+      wire_is k low = ap (λ xs. get_or xs k ty.Bool) is ∙ map_at wire_type wires k (wire 0 Nothing) ty.Bool low
+
+      wire_has : (k : ℕ) → k < length wires → gives_has marks (wire_at wires k).element (wire_at wires k).gives (wire_type (wire_at wires k)) ≡ true → WireHas s (wire_at wires k) (get_or given k ty.Bool)
+      wire_has k low on = subst (WireHas s (wire_at wires k)) (sym (wire_is k low)) (so_given (wire_at wires k).element (wire_at wires k).gives (wire_type (wire_at wires k)) on)
+
       counts : (r : TypeRule) → length (flags_of r (found_by u d o inputs given)) ≡ length s.forms
       counts NoType = a.0
       counts Disagreement = b.0
@@ -180,8 +203,10 @@ have_types pous links js types are none inputs wires = record {
       let found : AreTypes s ws j.inputs j.wires = record {
         pin_count = ok.pin_count;
         each_pin = λ i t l has. one_pin s stands single agree i t (get_or j.inputs i ty.Bool) l has (ok.pins i t l has);
+        other_pin = λ i l none. elim (ok.given_pin i l) [ inl has ↦ absurd (none (get_or j.inputs i ty.Bool) has) | inr bool ↦ bool ];
         wire_count = ok.wire_count;
         each_wire = λ k t l has. one_wire s stands single agree (wire_at ws k) t (get_or j.wires k ty.Bool) has (ok.each_wire k t l has);
+        other_wire = λ k l none. elim (ok.given_wire k l) [ inl has ↦ absurd (none (get_or j.wires k ty.Bool) has) | inr bool ↦ bool ];
         shared = λ e shares. elim (ok.shared e shares) [
           | inr some ↦ some
           | inl no-type ↦ elim (cases_lt e (length s.forms)) [

@@ -3,10 +3,7 @@ use Rattle.std.specs.Prelude.{◌≡◌, ◌≢◌, ◌⊎◌, ℕ, ◌<◌, Boo
 use Rattle.std.specs.Bool.{Decides}
 use Rattle.plcx_types.specs.declared.ty.Ty.{Ty}
 use Rattle.plcx_types.specs.declared.ty.Ty.TheVariants as ty
-use Rattle.plcx_model.specs.declared.broken.Broken.{Broken}
-use Rattle.plcx_model.specs.declared.broken.Place.{Place}
 use Rattle.plcx_model.specs.declared.project.Pou.{Pou}
-use Rattle.plcx_model.specs.declared.project.Project.{Project}
 use Rattle.plcx_model.specs.declared.source.Source.{Source}
 use Rattle.plcx_rules.specs.declared.form.WireForm.{WireForm}
 use Rattle.plcx_rules.specs.declared.form.TypeRule.{TypeRule}
@@ -15,7 +12,7 @@ use Rattle.plcx_rules.specs.declared.form.Grouping.TheVariants.{Apart}
 use Rattle.plcx_rules.specs.Types.{Sheet, form_at, AtPin, AtGroup, HasType, WireHas}
 use Rattle.plcx_rules.specs.Forms.{sheet_at, wires_from}
 use Rattle.plcx_rules.specs.Typed.{wire_at}
-use Rattle.plcx_rules.specs.TypingRules.{HasNoType, BreaksIn, TypingVerdict, type_rule_number}
+use Rattle.plcx_rules.specs.TypingRules.{HasNoType, BreaksIn, type_rule_number}
 use Rattle.plcx_typing.specs.declared.body.Judged.{Judged}
 use Rattle.plcx_typing.specs.Faults.{flag}
 
@@ -36,8 +33,11 @@ pub record IsJudged (s : Sheet) (wires : List WireForm) (j : Judged) : Type 0 wh
   pub shared : (e : ℕ) → (form_at s e).grouping ≢ Apart → HasNoType s e ⊎ ((t : Ty) × HasType s (AtGroup e) t)
   pub pin_count : length j.inputs ≡ length s.pins
   pub pins : (i : ℕ) (t : Ty) → i < length s.pins → HasType s (AtPin i) t → HasType s (AtPin i) (get_or j.inputs i ty.Bool)
+  -- what is given is a type of the pin, or else BOOL
+  pub given_pin : (i : ℕ) → i < length s.pins → HasType s (AtPin i) (get_or j.inputs i ty.Bool) ⊎ (get_or j.inputs i ty.Bool ≡ ty.Bool)
   pub wire_count : length j.wires ≡ length wires
   pub each_wire : (k : ℕ) (t : Ty) → k < length wires → WireHas s (wire_at wires k) t → WireHas s (wire_at wires k) (get_or j.wires k ty.Bool)
+  pub given_wire : (k : ℕ) → k < length wires → WireHas s (wire_at wires k) (get_or j.wires k ty.Bool) ⊎ (get_or j.wires k ty.Bool ≡ ty.Bool)
 
 abbrev pub no_judged : Judged
 no_judged = record { untyped = []; disagreeing = []; outside = []; inputs = []; wires = [] }
@@ -72,14 +72,3 @@ NoSpot r js = (q : ℕ) → q < length js → NoFlag (flags_of r (judged_at js q
 pub record IsFirstFault (js : List Judged) (fault : TypeRule × ℕ × ℕ) : Type 0 where
   pub spot : IsSpot fault.0 js (fault.1, fault.2)
   pub before : (r : TypeRule) → type_rule_number r < type_rule_number fault.0 → NoSpot r js
-
--- a rule by its number, with its place
-abbrev pub broken_as : ℕ → Place → Broken
-broken_as rule place = record { rule = record { 0 = rule }; place = place }
-
--- the first rule that is broken, and its first place
-pub record IsRefused (project : Project) (links : List (List (List Source))) (b : Broken) : Type 0 where
-  pub rule : TypeRule
-  pub place : Place
-  pub verdict : TypingVerdict project links (Some (rule, place))
-  pub is : b ≡ broken_as (type_rule_number rule) place

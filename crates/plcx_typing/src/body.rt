@@ -66,7 +66,8 @@ fn pin_types(
     marks: &[bool],
 ) -> Result<Vec<Ty>, NoMemory>
     ensures count { IfOk result (λ types. length types.items ≡ length pins.now) }
-    ensures types { IfOk result (λ types. (i : ℕ) → i < length pins.now → get_or types.items i Bool ≡ first_type (pin_has (sheet forms.now [] []) marks.now (pin_at (sheet [] pins.now []) i) (sources_at (sheet [] [] links.now) i)) all_types) }
+    ensures types { IfOk result (λ types. (i : ℕ) → i < length pins.now
+        → get_or types.items i Bool ≡ first_type (pin_has (sheet forms.now [] []) marks.now (pin_at (sheet [] pins.now []) i) (sources_at (sheet [] [] links.now) i)) all_types) }
 {
     let mut types = Vec::new(alloc);
     for i in 0..pins.len() {
@@ -136,7 +137,8 @@ pub(crate) fn judge(
     elements: &[BodyElement],
     links: &[Items<Source>],
 ) -> Result<Judged, NoMemory>
-    ensures { IfOk result (IsJudged (sheet (map (λ (x : BodyElement). form_of scope.now owner.now x.kind) elements.now) (pins_from scope.now owner.now 0 elements.now) links.now) (wires_from scope.now owner.now 0 elements.now)) }
+    ensures { IfOk result (IsJudged (sheet (map (λ (x : BodyElement). form_of scope.now owner.now x.kind) elements.now) (pins_from scope.now owner.now 0 elements.now) links.now)
+        (wires_from scope.now owner.now 0 elements.now)) }
 {
     if elements.len() >= 4_294_967_296 {
         return Err(NoMemory);

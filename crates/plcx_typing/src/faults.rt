@@ -94,7 +94,8 @@ fn raise_literals(
     sources: &[Source],
 )
     ensures count { length flags.new.items ≡ length flags.old.items }
-    ensures flags { (x : ℕ) → x < length flags.old.items → flag flags.new.items x ≡ (flag flags.old.items x || list_any (source_raises rule (sheet forms.now [] []) marks.now pin sources.now x) sources.now) }
+    ensures flags { (x : ℕ) → x < length flags.old.items
+        → flag flags.new.items x ≡ (flag flags.old.items x || list_any (source_raises rule (sheet forms.now [] []) marks.now pin sources.now x) sources.now) }
 {
     for source in sources {
         raise_literal(flags, rule, forms, marks, pin, sources, *source);
@@ -111,7 +112,8 @@ fn raise_owner(
     sources: &[Source],
 )
     ensures count { length flags.new.items ≡ length flags.old.items }
-    ensures flags { (x : ℕ) → x < length flags.old.items → flag flags.new.items x ≡ (flag flags.old.items x || (nat_eq pin.element x && pin_breaks rule (sheet forms.now [] []) marks.now pin sources.now)) }
+    ensures flags { (x : ℕ) → x < length flags.old.items
+        → flag flags.new.items x ≡ (flag flags.old.items x || (nat_eq pin.element x && pin_breaks rule (sheet forms.now [] []) marks.now pin sources.now)) }
 {
     if pin_breaks(rule, forms, marks, pin, sources) {
         raise(flags, pin.element);

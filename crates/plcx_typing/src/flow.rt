@@ -44,7 +44,8 @@ impl Flow {
         requires source { Contains (sources_at (sheet forms.now pins.now links.now) pin) source }
         requires flow { IsFlowOf (sheet forms.now pins.now links.now) self.old.seeds.items self.old.next.items }
         ensures flow { OnOk result (IsFlowOf (sheet forms.now pins.now links.now) self.new.seeds.items self.new.next.items) }
-        ensures fed { OnOk result (Feeds self.new.seeds.items self.new.next.items (pin_at (sheet forms.now pins.now links.now) pin).element source (gives_at (sheet forms.now pins.now links.now) source)) }
+        ensures fed { OnOk result (Feeds self.new.seeds.items self.new.next.items (pin_at (sheet forms.now pins.now links.now) pin).element source
+            (gives_at (sheet forms.now pins.now links.now) source)) }
         ensures grows { OnOk result (Grows self.old.seeds.items self.old.next.items self.new.seeds.items self.new.next.items) }
     {
         let element = pins[pin].element;
@@ -110,7 +111,8 @@ pub(crate) fn flow_of(
 ) -> Result<Flow, NoMemory>
     requires placed { ArePlaced (length forms.now) pins.now }
     ensures flow { IfOk result (λ flow. IsFlowOf (sheet forms.now pins.now links.now) flow.seeds.items flow.next.items) }
-    ensures fed { IfOk result (λ flow. (i : ℕ) → i < length pins.now → IsGroupPin (sheet forms.now pins.now links.now) i → FeedsAt (sheet forms.now pins.now links.now) flow.seeds.items flow.next.items i) }
+    ensures fed { IfOk result (λ flow. (i : ℕ) → i < length pins.now → IsGroupPin (sheet forms.now pins.now links.now) i
+        → FeedsAt (sheet forms.now pins.now links.now) flow.seeds.items flow.next.items i) }
 {
     let mut flow = still(alloc, forms.len())?;
     for pin in 0..pins.len() {

@@ -17,7 +17,10 @@ ghost use Rattle.plcx_typing.specs.Building.{literal_gives, gives_as, wire_as, i
 
 use plcx_funcs::{Allowed, Class, Func, FuncPins};
 use plcx_model::{BodyElement, Kind, Mods, PinIn, PinOut, Storage};
-use plcx_names::{Held, Owner, Scope, same_name, text_held};
+use plcx_names::{
+    Held, Owner, Scope, input_count, is_connected, is_enable, is_eno, is_function, output_name,
+    result_count, text_held,
+};
 use plcx_rules::{Callee, Form, Gives, Grouping, Out, Outputs, Pin, WireForm};
 use plcx_types::{Literal, NoMemory, Ty, Val};
 use sqlite_items::Items;
@@ -198,45 +201,6 @@ fn passing() -> Form
 
 // ---- blocks
 
-fn is_enable(pin: &PinIn) -> bool
-    ensures { result ≡ is_enable pin.now }
-{
-    same_name(pin.formal.as_slice(), b"EN")
-}
-
-fn is_connected(pin: &PinIn) -> bool
-    ensures { result ≡ is_connected pin.now }
-{
-    !pin.input.is_empty()
-}
-
-fn input_count(inputs: &[PinIn]) -> usize
-    ensures { result ≡ input_count inputs.now }
-{
-    inputs.iter().filter(|pin| !is_enable(pin)).count()
-}
-
-fn is_eno(output: &PinOut) -> bool
-    ensures { result ≡ is_eno output.now }
-{
-    same_name(output.formal.as_slice(), b"ENO")
-}
-
-fn result_count(outputs: &[PinOut]) -> usize
-    ensures { result ≡ result_count outputs.now }
-{
-    outputs.iter().filter(|output| !is_eno(output)).count()
-}
-
-fn is_function(callee: Callee) -> bool
-    ensures { result ≡ is_function callee }
-{
-    match callee {
-        Callee::Function(_) => true,
-        Callee::Standard(_) | Callee::Block(_) => false,
-    }
-}
-
 fn gives_class(class: Option<Class>) -> Gives
     ensures { result ≡ gives_class class }
 {
@@ -279,13 +243,6 @@ fn in_out_class(
     }
 }
 
-/// The output is the result of a function, of whose outputs so many aren't ENO.
-fn is_result(output: &PinOut, count: usize) -> bool
-    ensures { result ≡ (not (is_eno output.now) && (nat_eq count 1 || is_empty output.now.formal)) }
-{
-    !is_eno(output) && (count == 1 || output.formal.is_empty())
-}
-
 fn output_gives(
     alloc: Global,
     scope: &Scope,
@@ -300,11 +257,7 @@ fn output_gives(
     let Some(callee) = callee else {
         return Ok(Gives::Nothing);
     };
-    let name = if is_function(callee) && is_result(output, count) {
-        b"OUT"
-    } else {
-        output.formal.as_slice()
-    };
+    let name = output_name(is_function(callee), count, output);
     Ok(gives_class(scope.output_class(alloc, callee, name)?))
 }
 

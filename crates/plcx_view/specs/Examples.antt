@@ -23,7 +23,8 @@ all_of n t networks = record { types = replicate n t; networks = networks; marks
 abbrev pub edges_pou : Pou
 edges_pou = main
     (listed class.Local
-    (variable (codes "I") (Plain ty.Bool) ∷ variable (codes "F") (Plain ty.Bool) ∷ variable (codes "S") (Plain ty.Bool) ∷ variable (codes "U") (Plain ty.Bool) ∷ variable (codes "D") (Plain ty.Bool) ∷ [])
+    (variable (codes "I") (Plain ty.Bool) ∷ variable (codes "F") (Plain ty.Bool) ∷ variable (codes "S") (Plain ty.Bool)
+    ∷ variable (codes "U") (Plain ty.Bool) ∷ variable (codes "D") (Plain ty.Bool) ∷ [])
     ∷ [])
     (element 1 kind.LeftRail
     ∷ element 2 (kind.Contact (to 1) (codes "I") (at_edge edge.Falling))

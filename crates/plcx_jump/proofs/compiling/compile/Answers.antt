@@ -1,11 +1,23 @@
-use Rattle.std.proofs.Common.{rules, ◌≡◌, [], ◌∷◌, ◌∙◌, map}
-use Rattle.plcx_first_model.specs.PlanOf.{networks_of}
+use Rattle.std.proofs.Common.{List, ◌≡◌, ◌∙◌, ap, map, subst, sym}
+use Rattle.plcx_meaning.specs.Ready.{IsReady}
+use Rattle.plcx_meaning.specs.Same.{Behaves}
+use Rattle.plcx_meaning.specs.Templates.{unit_of}
+use Rattle.plcx_st.specs.Fitting.{UnitFits}
+use Rattle.plcx_st.specs.InRange.{UnitInRange}
 use Rattle.plcx_st.specs.Meant.{pou_meant}
-use Rattle.plcx_jump.specs.Texts.{first_text}
-use Rattle.plcx_jump.proofs.Texts.{first_unit}
+use Rattle.plcx_view.specs.Diagrams.{diagrams_of}
 use Rattle.plcx_jump.proofs.compiling.compile.Goals as goal
 
 pub returns : goal.returns
 returns c =
-    let text : map pou_meant c.push.new.self ≡ first_text c.args.pou.now (networks_of c.args.pou.now.elements c.args.plan.now) ∷ [] = search rules in
-    text ∙ first_unit c.args.pou.now (networks_of c.args.pou.now.elements c.args.plan.now)
+    let a = c.args.checked.now in
+    let diagrams = diagrams_of a.project a.links a.types a.plan in
+    let fits = c.checked_fits.ensures a.project a.links a.types a.plan c.requires in
+    let same : map pou_meant c.from_vec.result ≡ unit_of diagrams = ap (map pou_meant) c.from_vec.ensures ∙ c.in_ok-texts.ensures in
+    record {
+      unit = same;
+      in_range = subst UnitInRange (sym same) (c.texts_are_in_range.ensures.range diagrams fits);
+      fits = subst UnitFits (sym same) (c.texts_are_in_range.ensures.fits diagrams fits);
+      ready = subst IsReady (sym same) (c.texts_are_ready.ensures diagrams fits);
+      behaves = subst (Behaves diagrams) (sym same) (c.same_behavior.ensures.behaves diagrams fits);
+    }

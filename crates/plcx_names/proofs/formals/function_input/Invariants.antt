@@ -1,7 +1,7 @@
 use Rattle.std.proofs.Common.{◌≡◌, ◌-◌, map}
 use Rattle.std.specs.List.{range_with_len}
 use Rattle.plcx_rules.specs.Callees.{function_input, function_inputs, formal_named}
-use Rattle.plcx_names.specs.Formals.{class_of}
+use Rattle.plcx_rules.specs.Forms.{class_of}
 use Rattle.plcx_names.proofs.formals.function_input.Given as goal
 
 -- the inputs that are left

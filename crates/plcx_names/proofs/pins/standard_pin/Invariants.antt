@@ -1,4 +1,4 @@
-use Rattle.std.proofs.Common.{◌≡◌, nat_eq, drop, map, option_map}
+use Rattle.std.proofs.Common.{◌≡◌, nat_eq, drop, map}
 use Rattle.std.specs.List.{filter}
 use Rattle.plcx_std.specs.Pins.{Pin, shown}
 use Rattle.plcx_rules.specs.Callees.{BlockPin, role_place, pin_named, standard_pins}
@@ -8,4 +8,4 @@ use Rattle.plcx_names.proofs.pins.standard_pin.Given as goal
 abbrev pub invariant-loop-pin : goal.invariant-loop-pin
 invariant-loop-pin l =
     let left = map (λ (p : Pin). let b : BlockPin = record { name = p.name; ty = p.ty } in b) (filter (λ (p : Pin). nat_eq (role_place p.role) (role_place l.role)) (map shown (drop l.pin-index l.pins))) in
-    option_map (λ (p : BlockPin). p.ty) (pin_named l.name left) ≡ option_map (λ (p : BlockPin). p.ty) (pin_named l.name (standard_pins l.role l.fn.kind))
+    pin_named l.name left ≡ pin_named l.name (standard_pins l.role l.fn.kind)

@@ -4,7 +4,8 @@ use Rattle.plcx_model.specs.declared.body.BodyElement.{BodyElement}
 use Rattle.plcx_model.specs.declared.project.Pou.{Pou}
 use Rattle.plcx_rules.specs.declared.form.TypeRule.{TypeRule}
 use Rattle.plcx_typing.specs.declared.body.Judged.{Judged}
-use Rattle.plcx_typing.specs.Judgings.{AreJudged, IsFirstFault, NoSpot, broken_as}
+use Rattle.plcx_rules.specs.CheckVerdict.{broken_at}
+use Rattle.plcx_typing.specs.Judgings.{AreJudged, IsFirstFault, NoSpot}
 use Rattle.plcx_typing.proofs.Bodies.{have_types}
 use Rattle.plcx_typing.proofs.Verdicts.{kept_all, broken_first, spot_within}
 use Rattle.plcx_typing.proofs.answering.typing.Goals as goal
@@ -37,7 +38,7 @@ returns-in-Some c =
       rule = r;
       place = place;
       verdict = broken_first pous links js are r pou e place some at;
-      is = ap (λ n. broken_as n place) c.number.ensures;
+      is = ap (λ n. broken_at n place) c.number.ensures;
     }
 
 pub place_at-requires-clause-element : goal.place_at-requires-clause-element

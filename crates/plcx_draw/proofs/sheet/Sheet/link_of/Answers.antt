@@ -1,0 +1,13 @@
+use Rattle.std.proofs.Common.{◌≡◌, ◌∙◌, List, length, map, sym, ap, rules}
+use Rattle.plcx_view.specs.Links.{link_by, source_of}
+use Rattle.plcx_view.specs.Pins.{Feed}
+use Rattle.plcx_draw.proofs.SheetLaws.{zip_nothing}
+use Rattle.plcx_draw.proofs.sheet.Sheet.link_of.Goals as goal
+
+pub returns-then-is_empty-2 : goal.returns-then-is_empty-2
+returns-then-is_empty-2 c =
+    let own = c.args.self.now in
+    let pin = c.args.pin in
+    let none : length pin.marks.now ≡ 0 = search rules in
+    c.unwired-then-is_empty-2.ensures
+    ∙ sym (ap (λ (feeds : List Feed). link_by pin.ty c.args.negated (map (source_of own.pous own.pou) feeds)) (zip_nothing pin.sources.now pin.marks.now none))

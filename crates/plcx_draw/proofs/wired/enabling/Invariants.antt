@@ -1,0 +1,10 @@
+use Rattle.std.proofs.Common.{◌≡◌, map, drop}
+use Rattle.std.specs.List.{find}
+use Rattle.plcx_view.specs.Blocks.{Wired, enables}
+use Rattle.plcx_draw.specs.Wired.{shown_wired}
+use Rattle.plcx_draw.proofs.wired.enabling.Given as goal
+
+abbrev pub invariant-loop-wired : goal.invariant-loop-wired
+invariant-loop-wired l =
+    let test = λ (w : Wired). enables w.0 in
+    find test (map shown_wired (drop l.wired-index l.inputs)) ≡ find test (map shown_wired l.inputs)

@@ -1,4 +1,0 @@
-pub mod Members
-pub mod Fitting
-pub mod Named
-mod Counting

@@ -1,0 +1,5 @@
+pub mod Ranges
+pub mod Steps
+pub mod Inputs
+pub mod Networks
+pub mod Doing
