@@ -50,8 +50,7 @@ drop_front (x ∷ xs) ys (z ∷ zs) (suc k) m e h = drop_front xs ys zs k m (ome
 at_parts : {A : Type 0} (whole : List A) (i : ℕ) (xs ys : List A) → HasAt whole i (xs ++ ys) → HasAt whole i xs × HasAt whole (i + length xs) ys
 at_parts whole i xs ys h =
     let l = length-append xs ys in
-    let e : i + length (xs ++ ys) - i ≡ length xs + length ys = omega arith in
-    (
+    let e : i + length (xs ++ ys) - i ≡ length xs + length ys = omega arith in (
       ap (λ k. take k (drop i whole)) (let f : i + length xs - i ≡ length xs = omega arith in f) ∙ take_front xs ys (drop i whole) _ (length ys) e h,
       ap₂ (λ k zs. take k zs) (let f : i + length xs + length ys - (i + length xs) ≡ length ys = omega arith in f) (sym (drop-drop (length xs) i whole)) ∙ drop_front xs ys (drop i whole) _ (length ys) e h,
     )
