@@ -1,15 +1,15 @@
 //! Blocks: what they list, and functions.
-ghost use Rattle.std.specs.Prelude.{◌≡◌, map, option_map, IfOk};
-ghost use Rattle.std.specs.List.{find};
+ghost use Rattle.std.specs.Prelude.{◌≡◌, map, option_map, IfOk, Some, [], ◌++◌};
+ghost use Rattle.std.specs.List.{cons_option};
 ghost use Rattle.plcx_meaning.specs.Functions.{group_index};
 ghost use Rattle.plcx_drawn.specs.Shown.{shown_link, shown_kind};
-ghost use Rattle.plcx_rules.specs.Texts.{same_name};
-ghost use Rattle.plcx_view.specs.Blocks as view;
-ghost use Rattle.plcx_view.specs.Blocks.{wired_link, function_links, group_by};
-ghost use Rattle.plcx_draw.specs.Known.{formals_by};
+ghost use Rattle.plcx_rules.specs.Callees.{output_formal};
+ghost use Rattle.plcx_rules.specs.declared.callee.Callee.TheVariants.{Function};
+ghost use Rattle.plcx_view.specs.Blocks.{function_links, group_by};
+ghost use Rattle.plcx_draw.specs.Known.{formals_by, shown_output};
 ghost use Rattle.plcx_draw.specs.Listed.{Lists, IsBlock};
 ghost use Rattle.plcx_draw.specs.Pins.{shown_pins};
-ghost use Rattle.plcx_draw.specs.Wired.{shown_wired};
+ghost use Rattle.plcx_draw.specs.Wired.{shown_wired, link_named};
 
 use crate::pins::Pins;
 use crate::sheet::Sheet;
@@ -105,7 +105,7 @@ impl<'s, 'a> Sheet<'s, 'a> {
         inputs: &[Wired],
         name: &[u8],
     ) -> Result<Option<Link<'a>>, NoMemory>
-        ensures { IfOk result (λ link. option_map shown_link link ≡ option_map (wired_link self.now.pous self.now.pou) (find (λ (w : view.Wired). same_name name.now w.0.formal) (map shown_wired inputs.now))) }
+        ensures { IfOk result (λ link. option_map shown_link link ≡ link_named self.now.pous self.now.pou name.now (map shown_wired inputs.now)) }
     {
         match input_named(inputs, name) {
             None => Ok(None),
@@ -189,9 +189,3 @@ impl<'s, 'a> Sheet<'s, 'a> {
         }
     }
 }
-
-ghost use Rattle.std.specs.Prelude.{Some, [], ◌++◌};
-ghost use Rattle.std.specs.List.{cons_option};
-ghost use Rattle.plcx_rules.specs.Callees.{output_formal};
-ghost use Rattle.plcx_rules.specs.declared.callee.Callee.TheVariants.{Function};
-ghost use Rattle.plcx_draw.specs.Known.{shown_output};

@@ -1,11 +1,11 @@
 //! Calls of instances.
-ghost use Rattle.std.specs.Prelude.{◌≡◌, Some, false, List, map, option_map, IfOk};
+ghost use Rattle.std.specs.Prelude.{◌≡◌, Some, false, List, map, option_map, IfOk, ◌++◌, ◌∷◌, [], slice_get};
 ghost use Rattle.plcx_drawn.specs.Shown.{shown_input_pin, shown_in_out_pin, shown_output_pin, shown_kind};
 ghost use Rattle.plcx_model.specs.declared.body.PinIn.{PinIn};
 ghost use Rattle.plcx_rules.specs.Callees.{is_function, output_formal};
 ghost use Rattle.plcx_view.specs.Blocks.{beside, input_pin, lent_by, lent_at, in_out_pin, fixed_type, output_pin, instance_of};
 ghost use Rattle.plcx_draw.specs.Known.{Looked, shown_known, shown_output};
-ghost use Rattle.plcx_draw.specs.Listed.{IsBlock};
+ghost use Rattle.plcx_draw.specs.Listed.{lent, output_by, AreOutputPins, IsBlock};
 ghost use Rattle.plcx_draw.specs.Pins.{shown_pin};
 ghost use Rattle.plcx_draw.specs.Wired.{shown_wired};
 
@@ -72,7 +72,7 @@ fn output_pins<'a>(
     formals: &[Option<Formal<'a>>],
     outputs: &[PinOut],
 ) -> Result<Vec<OutputPin<'a>>, NoMemory>
-    ensures { IfOk result (λ pins. (pous : List Pou) (c : Callee) → map shown_output formals.now ≡ map (output_formal pous c outputs.now) outputs.now → map shown_output_pin pins.items ≡ map (output_pin pous c outputs.now) (beside outputs.now)) }
+    ensures { IfOk result (λ pins. AreOutputPins formals.now outputs.now pins.items) }
 {
     let mut pins = Vec::new(alloc);
     for i in 0..outputs.len().min(formals.len()) {
@@ -216,8 +216,3 @@ impl<'s, 'a> Sheet<'s, 'a> {
         })
     }
 }
-
-ghost use Rattle.plcx_model.specs.declared.project.Pou.{Pou};
-ghost use Rattle.plcx_rules.specs.declared.callee.Callee.{Callee};
-ghost use Rattle.std.specs.Prelude.{◌++◌, ◌∷◌, [], slice_get};
-ghost use Rattle.plcx_draw.specs.Listed.{lent, output_by};

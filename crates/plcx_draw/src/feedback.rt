@@ -1,10 +1,11 @@
 //! Which outputs feed back.
-ghost use Rattle.std.specs.Prelude.{◌≡◌, ◌&&◌, ℕ, List, map, nat_eq, IfOk};
+ghost use Rattle.std.specs.Prelude.{◌≡◌, ◌&&◌, ℕ, List, map, nat_eq, IfOk, Bool, false, IsTrue, filter};
 ghost use Rattle.std.specs.List.{list_any};
 ghost use Rattle.std.specs.Str.{bytes_eq};
-ghost use Rattle.plcx_meaning.specs.Diagram.{reads_back, link_reads_back, enable_links, links_of};
-ghost use Rattle.plcx_drawn.specs.Shown.{shown_source, shown_link, shown_enable, shown_input_pin, shown_kind};
-ghost use Rattle.plcx_draw.specs.Feedback.{has, Adds, shown_bare, link_of_input, kind_reads_back};
+ghost use Rattle.plcx_meaning.specs.Diagram.{reads_back, link_reads_back, enable_links, links_of, DiagramElement, ports};
+ghost use Rattle.plcx_meaning.specs.Diagram as diagram;
+ghost use Rattle.plcx_drawn.specs.Shown.{shown_source, shown_link, shown_enable, shown_input_pin, shown_kind, shown_port, shown_element};
+ghost use Rattle.plcx_draw.specs.Feedback.{has, Adds, shown_bare, link_of_input, kind_reads_back, with_found};
 
 use indexmap::IndexSet;
 use plcx_drawn::{Element, ElementKind, Enable, InputPin, Link, Output, Port, Source, ports};
@@ -146,9 +147,6 @@ impl<'a> Feedback<'a> {
     }
 }
 
-ghost use Rattle.std.specs.Prelude.{Bool, false, IsTrue};
-ghost use Rattle.plcx_meaning.specs.Diagram.{DiagramElement};
-
 /// The outputs of an element that feed back, in their order.
 fn fed_of<'a>(
     alloc: Global,
@@ -190,9 +188,3 @@ pub(crate) fn with_fed<'a>(
     }
     Ok(all)
 }
-
-ghost use Rattle.std.specs.Prelude.{filter};
-ghost use Rattle.plcx_meaning.specs.Diagram as diagram;
-ghost use Rattle.plcx_meaning.specs.Diagram.{ports};
-ghost use Rattle.plcx_drawn.specs.Shown.{shown_port, shown_element};
-ghost use Rattle.plcx_draw.specs.Feedback.{with_found};

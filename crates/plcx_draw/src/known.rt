@@ -1,8 +1,11 @@
 //! What the texts of an element lead to, looked up once.
-ghost use Rattle.std.specs.Prelude.{◌≡◌, map, option_map, IfOk};
+ghost use Rattle.std.specs.Prelude.{◌≡◌, map, option_map, IfOk, slice_get};
+ghost use Rattle.plcx_drawn.specs.Shown.{shown_source};
 ghost use Rattle.plcx_rules.specs.Callees.{output_formal};
 ghost use Rattle.plcx_names.specs.SeenHelds.{shown_named};
-ghost use Rattle.plcx_draw.specs.Known.{held_of, callee_of, formals_by, formals_of, looked_up, gives, shown_output, shown_known};
+ghost use Rattle.plcx_view.specs.Operands.{number_of, literal_by};
+ghost use Rattle.plcx_view.specs.Links.{wired_to, literal_or, declared_name};
+ghost use Rattle.plcx_draw.specs.Known.{held_of, callee_of, formals_by, formals_of, looked_up, gives, shown_output, shown_known, output_text};
 
 use plcx_drawn::{Output, Source};
 use plcx_model::{BodyElement, Kind, PinOut};
@@ -114,10 +117,6 @@ fn number_of(literal: Literal) -> i128
     }
 }
 
-ghost use Rattle.plcx_view.specs.Operands.{number_of};
-ghost use Rattle.plcx_view.specs.Links.{wired_to, literal_or, declared_name};
-ghost use Rattle.plcx_drawn.specs.Shown.{shown_source};
-
 /// An output that feeds back, or one that is fixed before.
 fn wired_to<'a>(back: bool, element: u64, pin: &'a [u8]) -> Source<'a>
     ensures { shown_source result ≡ wired_to back element pin.entry.now }
@@ -153,8 +152,6 @@ fn read_by<'a>(negated: bool, named: &Option<Named<'a>>, other: Source<'a>) -> S
     }
 }
 
-ghost use Rattle.plcx_view.specs.Operands.{literal_by};
-
 impl<'a> Known<'a> {
     /// The name of the output at a place.
     fn output_text(&self, pin: u32) -> &'a [u8]
@@ -178,6 +175,3 @@ impl<'a> Known<'a> {
         }
     }
 }
-
-ghost use Rattle.std.specs.Prelude.{slice_get};
-ghost use Rattle.plcx_draw.specs.Known.{output_text};

@@ -1,10 +1,11 @@
 //! A POU with what the texts of its elements lead to, and what stands at its input pins.
-ghost use Rattle.std.specs.Prelude.{◌≡◌, ◌<◌, Some, map, option_map, slice_get, length, IfOk};
+ghost use Rattle.std.specs.Prelude.{◌≡◌, ◌<◌, Some, map, option_map, slice_get, length, IfOk, []};
 ghost use Rattle.std.specs.List.{zip};
 ghost use Rattle.plcx_drawn.specs.Shown.{shown_source, shown_link};
-ghost use Rattle.plcx_view.specs.Links.{source_of, link_of, link_at};
+ghost use Rattle.plcx_view.specs.Links.{source_of, link_of, link_at, link_by};
 ghost use Rattle.plcx_draw.specs.Known.{shown_known, looked_up};
 ghost use Rattle.plcx_draw.specs.Pins.{shown_pin, shown_pins};
+ghost use Rattle.plcx_draw.specs.Sheets.{AreKnown};
 
 use crate::known::{Known, look_up};
 use crate::pins::{Pin, Pins};
@@ -156,7 +157,3 @@ fn unwired<'a>(alloc: Global, ty: Ty, negated: bool) -> Link<'a>
         others: Items::new(alloc),
     }
 }
-
-ghost use Rattle.std.specs.Prelude.{[]};
-ghost use Rattle.plcx_view.specs.Links.{link_by};
-ghost use Rattle.plcx_draw.specs.Sheets.{AreKnown};

@@ -2,12 +2,12 @@
 ghost use Rattle.std.specs.Prelude.{◌≡◌, not, map, filter, option_map, IfOk};
 ghost use Rattle.std.specs.List.{zip, find};
 ghost use Rattle.plcx_drawn.specs.Shown.{shown_link, shown_enable};
-ghost use Rattle.plcx_rules.specs.Texts.{same_name};
+ghost use Rattle.plcx_model.specs.declared.body.PinOut.{PinOut};
 ghost use Rattle.plcx_rules.specs.Callees.{is_eno, is_enable};
 ghost use Rattle.plcx_view.specs.Blocks as view;
 ghost use Rattle.plcx_view.specs.Blocks.{wired_link, among, is_taken, enables, enable_of, is_negated, beside};
 ghost use Rattle.plcx_draw.specs.Pins.{shown_pins};
-ghost use Rattle.plcx_draw.specs.Wired.{shown_wired};
+ghost use Rattle.plcx_draw.specs.Wired.{shown_wired, input_named};
 
 use crate::pins::{Pin, Pins};
 use crate::sheet::Sheet;
@@ -46,7 +46,7 @@ pub(crate) fn with_pins<'a>(
 
 /// The first input of that name.
 pub(crate) fn input_named<'a>(inputs: &[Wired<'a>], name: &[u8]) -> Option<Wired<'a>>
-    ensures { option_map shown_wired result ≡ find (λ (w : view.Wired). same_name name.now w.0.formal) (map shown_wired inputs.now) }
+    ensures { option_map shown_wired result ≡ input_named name.now (map shown_wired inputs.now) }
 {
     for wired in inputs {
         if same_name(name, wired.input.formal.as_slice()) {
@@ -157,5 +157,3 @@ impl<'s, 'a> Sheet<'s, 'a> {
         }
     }
 }
-
-ghost use Rattle.plcx_model.specs.declared.body.PinOut.{PinOut};

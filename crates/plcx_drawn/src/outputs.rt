@@ -1,7 +1,7 @@
 //! The outputs of an element.
-ghost use Rattle.std.specs.Prelude.{◌≡◌, map, IfOk};
+ghost use Rattle.std.specs.Prelude.{◌≡◌, map, IfOk, [], ◌∷◌, ◌++◌};
 ghost use Rattle.plcx_meaning.specs.Functions.{out_type};
-ghost use Rattle.plcx_meaning.specs.Diagram.{has_eno, eno_ports, output_ports, ports};
+ghost use Rattle.plcx_meaning.specs.Diagram.{has_eno, eno_ports, output_ports, ports, port};
 ghost use Rattle.plcx_drawn.specs.Shown.{shown_enable, shown_output_pin, shown_kind, shown_port};
 
 use crate::element::{ElementKind, Enable, OutputPin, Port};
@@ -32,9 +32,6 @@ fn only<'a>(alloc: Global, ty: Ty) -> Result<Vec<Port<'a>>, NoMemory>
     all.push(Port { pin: b"", ty })?;
     Ok(all)
 }
-
-ghost use Rattle.std.specs.Prelude.{[], ◌∷◌, ◌++◌};
-ghost use Rattle.plcx_meaning.specs.Diagram.{port};
 
 /// ENO, where a block has it.
 fn eno_ports<'a>(alloc: Global, enable: &Enable<'a>) -> Result<Vec<Port<'a>>, NoMemory>

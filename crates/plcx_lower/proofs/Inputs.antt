@@ -1,9 +1,9 @@
 -- The inputs of an operator: the first ones and those behind them.
-use Rattle.std.proofs.Common.{◌≡◌, ◌≤◌, ◌-◌, List, ◌∷◌, map, length, get_or, take, drop, subst}
+use Rattle.std.proofs.Common.{◌≡◌, ◌≤◌, ◌-◌, List, map, length, get_or, take, drop, subst}
 use Rattle.std.proofs.lemmas.List.{take_rest}
 use Rattle.plcx_types.specs.Lists.{Each}
 use Rattle.plcx_meaning.specs.Tree.{Operator, Expression, Binary}
-use Rattle.plcx_meaning.specs.Templates.{link_text, chain, compared, neighbours}
+use Rattle.plcx_meaning.specs.Templates.{link_text, chain, neighbours}
 use Rattle.plcx_st.specs.InRange.{ExpressionInRange}
 use Rattle.plcx_drawn.specs.declared.element.Link.{Link}
 use Rattle.plcx_drawn.specs.Shown.{shown_link}

@@ -1,14 +1,13 @@
 -- Networks, place by place.
-use Rattle.std.proofs.Common.{◌≡◌, ℕ, ◌<◌, ◌+◌, List, [], ◌∷◌, ◌++◌, map, length, get_or, drop, sym, subst, ap, ◌∙◌, refl, append_assoc, append-nil}
+use Rattle.std.proofs.Common.{◌≡◌, ℕ, ◌<◌, ◌+◌, List, [], ◌∷◌, ◌++◌, length, get_or, drop, sym, subst, ap, ◌∙◌, refl, append_assoc, append-nil}
 use Rattle.std.specs.Prelude.{Option, Some, None, slice_get}
 use Rattle.std.specs.List.{cons_option}
 use Rattle.std.specs.Option.{option_map}
 use Rattle.std.proofs.lemmas.List.{drop_more}
 use Rattle.std.proofs.lemmas.Option.{slice_get-map}
-use Rattle.plcx_types.specs.Lists.{Each}
 use Rattle.plcx_meaning.specs.Tree.{Statement}
 use Rattle.plcx_meaning.specs.Diagram.{DiagramElement}
-use Rattle.plcx_meaning.specs.Templates.{element_text, elements_text, straight_text}
+use Rattle.plcx_meaning.specs.Templates.{element_text, elements_text}
 use Rattle.plcx_drawn.specs.declared.element.Element.{Element}
 use Rattle.plcx_drawn.specs.declared.drawing.Drawing.{Drawing}
 use Rattle.plcx_drawn.specs.Shown.{shown_element, shown_elements, shown_network}

@@ -1,8 +1,8 @@
 -- What is in range has parts that are.
-use Rattle.std.proofs.Common.{◌≡◌, ℕ, ◌<◌, ◌≤◌, Bool, true, false, List, [], ◌∷◌, ◌++◌, map, length, get_or, zero, suc, sym, subst, arith}
+use Rattle.std.proofs.Common.{◌≡◌, ℕ, ◌<◌, Bool, true, false, List, [], ◌∷◌, ◌++◌, map, length, get_or, zero, suc, sym, subst, arith}
 use Rattle.std.specs.List.{fold}
 use Rattle.plcx_types.specs.Lists.{Each}
-use Rattle.plcx_meaning.specs.Tree.{Operator, Binary, Expression, Not, Apply, expressions}
+use Rattle.plcx_meaning.specs.Tree.{Operator, Binary, Expression, expressions}
 use Rattle.plcx_meaning.specs.Diagram.{Link, Contacting, Open, Closed, RisingContact, FallingContact, Storing, Stored, Inverted, Set, Reset}
 use Rattle.plcx_meaning.specs.Templates.{not_if, or_text, link_text, source_text, contact_text, compared, store_text}
 use Rattle.plcx_st.specs.InRange.{ExpressionInRange, ExpressionsInRange, StatementInRange}

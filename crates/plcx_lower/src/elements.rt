@@ -6,7 +6,8 @@ ghost use Rattle.plcx_meaning.specs.Tree.{Assign};
 ghost use Rattle.plcx_meaning.specs.Templates.{wire_name, link_text, eno_text, out_default, input_text, in_out_text, output_text, kind_text, feed_text, element_text};
 ghost use Rattle.plcx_st.specs.Meant.{arg_meant};
 ghost use Rattle.plcx_st.specs.InRange.{ArgumentInRange, StatementInRange};
-ghost use Rattle.plcx_drawn.specs.Shown.{shown_link, shown_operand, shown_contacting, shown_coiling, shown_enable, shown_input_pin, shown_in_out_pin, shown_output_pin, shown_kind, shown_port, shown_element};
+ghost use Rattle.plcx_drawn.specs.Shown.{shown_link, shown_operand, shown_contacting, shown_coiling, shown_enable};
+ghost use Rattle.plcx_drawn.specs.Shown.{shown_input_pin, shown_in_out_pin, shown_output_pin, shown_kind, shown_port, shown_element};
 ghost use Rattle.plcx_lower.specs.Adds.{Adds};
 
 use crate::body::{Body, assignment, storing};

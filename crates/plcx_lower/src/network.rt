@@ -6,6 +6,7 @@ ghost use Rattle.plcx_st.specs.Meant.{stmt_meant};
 ghost use Rattle.plcx_st.specs.InRange.{StatementInRange};
 ghost use Rattle.plcx_drawn.specs.Shown.{shown_network, shown_networks};
 ghost use Rattle.plcx_lower.specs.Adds.{Adds};
+ghost use Rattle.plcx_lower.specs.Does.{DoesNetwork};
 
 use crate::body::Body;
 use plcx_drawn::Drawing;
@@ -38,14 +39,15 @@ impl Body {
     }
 }
 
-/// The statements of a network: its elements at these places, one after another.
+/// The statements of a network: its elements at these places, one after another. They do what the elements do.
 pub fn lower_network(
     alloc: Global,
     drawing: &Drawing,
     places: &[u32],
 ) -> Result<Vec<Stmt>, NoMemory>
     requires { Each StatementInRange (elements_text (shown_network drawing.now places.now)) }
-    ensures { IfOk result (λ statements. map stmt_meant statements.items ≡ elements_text (shown_network drawing.now places.now)) }
+    ensures text { IfOk result (λ statements. map stmt_meant statements.items ≡ elements_text (shown_network drawing.now places.now)) }
+    ensures does { IfOk result (λ statements. DoesNetwork (shown_network drawing.now places.now) (map stmt_meant statements.items)) }
 {
     let mut body = Body::new(alloc);
     body.put_network(drawing, places)?;

@@ -1,9 +1,5 @@
-use Rattle.std.proofs.Common.{◌≡◌, ◌∷◌, ◌+◌, map, drop}
-use Rattle.std.specs.List.{fold}
-use Rattle.plcx_meaning.specs.Tree.{Binary}
 use Rattle.plcx_meaning.specs.Templates.{link_text}
 use Rattle.plcx_st.specs.InRange.{ExpressionInRange}
-use Rattle.plcx_st.specs.Meant.{expr_meant, op_meant}
 use Rattle.plcx_drawn.specs.Shown.{shown_link}
 use Rattle.plcx_lower.proofs.Ranges.{each_item}
 use Rattle.plcx_lower.proofs.Steps.{drop_item}

@@ -1,0 +1,12 @@
+pub mod Picked
+pub mod Runs
+pub mod Told
+pub mod OneList
+pub mod Digits
+pub mod Fields
+pub mod Headers
+pub mod EventRows
+pub mod EventFiles
+pub mod OneEvents
+pub mod MeantEvents
+pub mod Stored

@@ -1,0 +1,18 @@
+use Rattle.std.proofs.Common.{◌≡◌, take, drop}
+use Rattle.plcx_types.specs.Lists.{Each}
+use Rattle.plcx_scan.specs.Events.{meant_events, CanFollow}
+use Rattle.plcx_scan.specs.Sides.{BringsAll, HasLines}
+use Rattle.plcx_scan.specs.Rows.{shown_numbers, meant_lines, IsRowOf}
+use Rattle.plcx_scan.proofs.running.run.Given as goal
+
+-- the events so far are over
+abbrev pub invariant-loop-event : goal.invariant-loop-event
+invariant-loop-event g l = record {
+  shown : l.shown-inside.numbers.items ≡ shown_numbers (g.S.Side.laid l.side).leaves;
+  machine : g.S.Side.machine l.side ≡ g.S.Side.machine l.fn.side;
+  laid : g.S.Side.laid l.side ≡ g.S.Side.laid l.fn.side;
+  follow : CanFollow (g.S.Side.laid l.side).leaves (g.S.Side.last l.side) (drop l.event-index l.events);
+  meaning : BringsAll (g.S.Side.machine l.fn.side) l.turns (meant_events (g.S.Side.laid l.fn.side).leaves (take l.event-index l.events)) (g.S.Side.stands_for l.fn.side) (g.S.Side.stands_for l.side);
+  lines : HasLines (g.S.Side.machine l.fn.side) l.turns (meant_events (g.S.Side.laid l.fn.side).leaves (take l.event-index l.events)) (g.S.Side.stands_for l.fn.side) (meant_lines l.rows.items);
+  rows : Each (IsRowOf (g.S.Side.laid l.fn.side).leaves) l.rows.items;
+}

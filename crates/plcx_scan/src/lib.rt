@@ -1,0 +1,26 @@
+//! Events, sides, and traces.
+//!
+//! A `Side` is a program between two events: that of a diagram or that of a text. Its meaning is a side of the
+//! definitions, and each call brings it to what the definitions give. `run` goes over events and gives a trace.
+#![tactic(auto)]
+
+mod column;
+mod event;
+mod event_row;
+mod law;
+mod open;
+mod reading;
+mod record;
+mod row;
+mod running;
+mod side;
+mod tracing;
+
+pub use event::{Event, Input};
+pub use law::{events_are_meant, one_list_of_events, one_wrong_record};
+pub use open::OpenError;
+pub use reading::{EventError, read_events};
+pub use row::{Shown, Trace, TraceRow};
+pub use running::run;
+pub use side::{Outcome, Side};
+pub use tracing::{run_to_text, trace_text};

@@ -1,0 +1,108 @@
+//! Event files: a header with the names of settable leaves, and a record for each event.
+ghost use Rattle.std.specs.Prelude.{◌≡◌, ◌<◌, ◌≤◌, ◌^◌, Some, None, IfOk, IfErr, OnOk, length};
+ghost use Rattle.plcx_state.specs.Layouts.{all_meant};
+ghost use Rattle.plcx_scan.specs.Events.{meant_events, CanFollow, last_after};
+ghost use Rattle.plcx_scan.specs.Files.{RecordsStandFor, StandsForEvents};
+ghost use Rattle.plcx_scan.specs.ReadFiles.{rows_events, CanTell, WhyNotRows};
+ghost use Rattle.plcx_scan.specs.Errors.{WhyNotRecords, WhyNotEvents};
+
+use crate::column::{Column, columns_of};
+use crate::event::Event;
+use crate::event_row::read_row;
+use crate::record::{Record, records};
+use plcx_state::{Layout, PathTable};
+use plcx_types::NoMemory;
+use std::alloc::{AllocError, AllocFailed, Global};
+
+/// Why bytes gave no events: the number of the first record that is wrong, from 1, or want of memory.
+#[derive(Clone, Copy, Debug, PartialEq, Eq)]
+pub enum EventError {
+    Row { row: u64 },
+    NoMemory,
+}
+
+impl From<NoMemory> for EventError {
+    ghost use Rattle.plcx_scan.specs.declared.reading.EventError.TheVariants.{NoMemory};
+
+    ghost from_gives = { λ _ e. e ≡ NoMemory };
+
+    fn from(_: NoMemory) -> EventError {
+        EventError::NoMemory
+    }
+}
+
+impl From<AllocError> for EventError {
+    ghost use Rattle.plcx_scan.specs.declared.reading.EventError.TheVariants.{NoMemory};
+
+    ghost from_gives = { λ _ e. e ≡ NoMemory };
+
+    fn from(_: AllocError) -> EventError {
+        EventError::NoMemory
+    }
+}
+
+impl<T: Drop> From<AllocFailed<T>> for EventError {
+    ghost use Rattle.plcx_scan.specs.declared.reading.EventError.TheVariants.{NoMemory};
+
+    ghost from_gives = { λ _ e. e ≡ NoMemory };
+
+    fn from(_: AllocFailed<T>) -> EventError {
+        EventError::NoMemory
+    }
+}
+
+fn last_after(last: u64, event: &Event) -> u64
+    ensures { result ≡ last_after last event.now }
+{
+    match event {
+        Event::Scan { time, .. } => time.unsigned_abs(),
+        Event::Warm | Event::Cold => last,
+    }
+}
+
+/// The events that the records behind a header stand for.
+fn read_rows(alloc: Global, columns: &[Column], rows: &[Record]) -> Result<Vec<Event>, EventError>
+    ensures ok { IfOk result (λ events. rows_events columns.now 0 rows.now ≡ Some events.items) }
+    ensures err { IfErr result (WhyNotRows columns.now rows.now) }
+{
+    let mut events = Vec::new(alloc);
+    let mut last = 0;
+    for place in 0..rows.len() {
+        let Some(event) = read_row(alloc, columns, last, &rows[place])? else {
+            return Err(EventError::Row {
+                row: place as u64 + 2,
+            });
+        };
+        last = last_after(last, &event);
+        events.push(event)?;
+    }
+    Ok(events)
+}
+
+fn read_records(alloc: Global, table: &PathTable, rows: &[Record]) -> Result<Vec<Event>, EventError>
+    requires few { length table.now < 2 ^ 32 }
+    requires tells { CanTell table.now }
+    ensures some { OnOk result (1 ≤ length rows.now) }
+    ensures ok { IfOk result (λ events. RecordsStandFor (all_meant table.now) rows.now (meant_events table.now events.items)) }
+    ensures follow { IfOk result (λ events. CanFollow table.now 0 events.items) }
+    ensures err { IfErr result (WhyNotRecords (all_meant table.now) rows.now) }
+{
+    let Some((header, rest)) = rows.split_first() else {
+        return Err(EventError::Row { row: 1 });
+    };
+    let Some(columns) = columns_of(alloc, table, header)? else {
+        return Err(EventError::Row { row: 1 });
+    };
+    Ok(read_rows(alloc, &columns, rest)?)
+}
+
+/// The events that a file stands for, for a program with this layout.
+pub fn read_events(alloc: Global, layout: &Layout, bytes: &[u8]) -> Result<Vec<Event>, EventError>
+    ensures ok { IfOk result (λ events. StandsForEvents (all_meant layout.now.leaves) bytes.now (meant_events layout.now.leaves events.items)) }
+    ensures follow { IfOk result (λ events. CanFollow layout.now.leaves 0 events.items) }
+    ensures err { IfErr result (WhyNotEvents (all_meant layout.now.leaves) bytes.now) }
+{
+    let table = PathTable::of(alloc, layout)?;
+    let rows = records(alloc, bytes)?;
+    Ok(read_records(alloc, &table, &rows)?)
+}
