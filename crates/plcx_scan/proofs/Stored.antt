@@ -1,5 +1,5 @@
 -- For sides that keep their values in a store: each value has its leaf's type.
-use Rattle.std.proofs.Common.{◌≡◌, ◌∷◌, ◌∙◌, List, [], map, subst}
+use Rattle.std.proofs.Common.{◌∷◌, ◌∙◌, List, [], subst}
 use Rattle.plcx_types.specs.Lists.{Each}
 use Rattle.plcx_types.specs.Value.{Value}
 use Rattle.plcx_state.specs.declared.layout.Leaf.{Leaf}
