@@ -1,14 +1,13 @@
 -- The records behind a header: what is read of them is what they stand for.
-use Rattle.std.proofs.Common.{◌≡◌, ◌<◌, ◌≤◌, ◌+◌, ◌∷◌, ◌++◌, ◌∙◌, ℕ, zero, suc, ℤ, pos, Bool, true, false, true≢false, List, [], Option, Some, None, cond, map, drop, length, refl, sym, ap, ap₂, subst, arith, if◌then◌else◌}
-use Rattle.std.specs.Prelude.{slice_get, not, ◌&&◌, nat_eq, nat_lt, nat_le, codes}
+use Rattle.std.proofs.Common.{◌≡◌, ◌<◌, ◌≤◌, ◌+◌, ◌∷◌, ◌++◌, ◌∙◌, ℕ, suc, pos, Bool, true, false, List, [], Option, Some, None, map, length, refl, sym, ap, ap₂, subst, arith, if◌then◌else◌}
+use Rattle.std.specs.Prelude.{slice_get, ◌&&◌, nat_eq, nat_lt, nat_le, codes}
 use Rattle.std.specs.Option.{option_map, option_and_then}
 use Rattle.std.specs.List.{list_all}
 use Rattle.std.specs.Str.{bytes_eq}
 use Rattle.std.proofs.lemmas.Bool.{and_parts, and_from, eqb-true, eq-eqb, leb-true, le-leb, ltb-true, lt-ltb}
-use Rattle.std.proofs.lemmas.List.{map-append}
 use Rattle.std.proofs.lemmas.Option.{same_Some}
 use Rattle.std.proofs.lemmas.Slice.Eq.{bytes_eq-Decides}
-use Rattle.plcx_types.specs.Duration.{AreDigits, number}
+use Rattle.plcx_types.specs.Duration.{number}
 use Rattle.plcx_types.specs.Limits.{max_event_time}
 use Rattle.plcx_types.specs.Lists.{Each}
 use Rattle.plcx_types.specs.Literal.{StandsForValue}
@@ -23,7 +22,6 @@ use Rattle.plcx_meaning.specs.Layout as layout
 use Rattle.plcx_meaning.specs.Layout.{Leaf as Meant}
 use Rattle.plcx_meaning.specs.Run as run
 use Rattle.plcx_state.specs.declared.layout.Leaf.{Leaf}
-use Rattle.plcx_state.specs.Layouts.{meant, meant_path}
 use Rattle.plcx_state.proofs.Keeping.{stands_ranged}
 use Rattle.plcx_scan.specs.declared.column.Column.{Column}
 use Rattle.plcx_scan.specs.declared.event.Event.{Event}
@@ -33,7 +31,7 @@ use Rattle.plcx_scan.specs.Events.{path_of, meant_input, meant_event, meant_even
 use Rattle.plcx_scan.specs.Events as events
 use Rattle.plcx_scan.specs.Files.{Record, max_time_digits, IsTime, AreInputs, IsScan, IsRestart, IsEvent, AreEvents}
 use Rattle.plcx_scan.specs.Files as files
-use Rattle.plcx_scan.specs.ReadFiles.{field, has_word, are_time_digits, within_limit, time_of, input_of, field_inputs, inputs_of, scan_at, scan_after, scan_event, is_empty, is_word_alone, restart_event, row_event, last_at_end, rows_events, IsColumnOf, AreColumns}
+use Rattle.plcx_scan.specs.ReadFiles.{are_time_digits, within_limit, time_of, input_of, field_inputs, inputs_of, scan_at, scan_after, scan_event, is_empty, restart_event, row_event, last_at_end, rows_events, IsColumnOf, AreColumns}
 
 -- what a test lets through
 passed : {A : Type 0} (b : Bool) (o : Option A) (x : A) → (if b then o else None) ≡ Some x → (b ≡ true) × (o ≡ Some x)

@@ -1,12 +1,11 @@
 -- Runs over events: one event more.
-use Rattle.std.proofs.Common.{◌≡◌, ◌<◌, ◌+◌, ◌∙◌, ◌∷◌, ◌++◌, ◌≤◌, ℕ, ℤ, List, [], map, take, drop, length, get_or, refl, sym, ap, ap₂, subst, arith}
+use Rattle.std.proofs.Common.{◌≡◌, ◌<◌, ◌+◌, ◌∙◌, ◌∷◌, ◌++◌, ◌≤◌, ℕ, List, [], take, drop, length, get_or, refl, sym, ap, ap₂, subst}
 use Rattle.std.specs.Prelude.{filter, OnErr}
 use Rattle.std.specs.declared.result.Result.{Result}
 use Rattle.std.specs.declared.result.Result.TheVariants.{Ok, Err}
 use Rattle.std.proofs.Math.Nat.{le_refl}
 use Rattle.std.proofs.Math.Seq.{take-length}
 use Rattle.std.proofs.lemmas.List.{map-append, length-map, take-map, take_more, drop_more}
-use Rattle.plcx_types.specs.Lists.{Each}
 use Rattle.plcx_types.specs.Value.{Value}
 use Rattle.plcx_meaning.specs.Layout.{Leaf as Meant}
 use Rattle.plcx_meaning.specs.Run as meant
@@ -21,7 +20,7 @@ use Rattle.plcx_scan.specs.Events.{meant_event, meant_events, CanBeNext, CanFoll
 use Rattle.plcx_scan.specs.Sides.{Tells, Brings, BringsAll, BringsSome, Shows, HasLine, HasLines, HasTypeOf, told}
 use Rattle.plcx_scan.specs.Rows.{shown_leaves, shown_numbers, picked, meant_line, meant_lines, IsRowOf}
 use Rattle.plcx_scan.specs.declared.side.Outcome.{Outcome}
-use Rattle.plcx_scan.proofs.Picked.{shown_of, picked_is, shown_typed, shown_agree}
+use Rattle.plcx_scan.proofs.Picked.{picked_is, shown_typed, shown_agree}
 
 -- the values that are picked after an event are those that the machine shows
 pub line_is : {G : Type 0} (m : Machine G) (turns : ℕ) (e : meant.Event) (Old New : meant.Side G → Type 0) (leaves : List Leaf) (values : List Value) (outcome : Outcome)

@@ -4,7 +4,6 @@ use Rattle.plcx_state.specs.Layouts.{Laid}
 use Rattle.plcx_state.specs.declared.layout.Leaf.{Leaf}
 use Rattle.plcx_state.proofs.Eaches.{each_push}
 use Rattle.plcx_scan.specs.Rows.{shown_numbers, IsRowOf}
-use Rattle.plcx_scan.specs.declared.row.TraceRow.{TraceRow}
 use Rattle.plcx_scan.proofs.Runs.{brings_next, has_next, some_brought, on_err, follow_next, pushed_lines}
 use Rattle.plcx_scan.proofs.running.run.Goals as goal
 

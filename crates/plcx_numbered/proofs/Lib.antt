@@ -1,0 +1,10 @@
+pub mod Keys
+pub mod Holding
+pub mod Alikes
+pub mod Links
+pub mod Simple
+pub mod Functions
+pub mod Blocks
+pub mod Calling
+pub mod Elements
+pub mod Bodies

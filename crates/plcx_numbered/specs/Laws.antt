@@ -1,0 +1,18 @@
+-- What the laws say, each of its subject.
+use Rattle.std.specs.Prelude.{◌≡◌, ◌<◌, ℕ, pos, [], List, Some, slice_get}
+use Rattle.plcx_meaning.specs.Diagram.{Project}
+use Rattle.plcx_meaning.specs.Evaluate.{Heard, DiagramState, program_does}
+use Rattle.plcx_steps.specs.declared.program.Program.{Program}
+use Rattle.plcx_steps.specs.Numbered.{Numbered, bodies_do}
+use Rattle.plcx_steps.specs.Sound.{levels, origin}
+use Rattle.plcx_numbered.specs.Agreeing.{IsApart, Agree, Alike, Nothing}
+use Rattle.plcx_numbered.specs.Right.{Plan, IsPrepared}
+
+-- A scan of a program that is prepared of a project is alike the diagram's: it ends, faults or runs out of turns as that does, and leaves, memories,
+-- turns left and what was heard agree behind it as they did before.
+abbrev pub ScansAlike : {M : Type 0} → (M → Heard → M) → Type 0
+ScansAlike {M} tell =
+    (begun : M) (time : ℕ) (project : Project) (plans : List Plan) (program : Program) → IsPrepared project plans program
+    → (plan : Plan) (k : ℕ) → slice_get plans k ≡ Some plan → plan.level < levels → plan.in_outs ≡ [] → IsApart plan.shape
+    → (d : DiagramState) (n : Numbered M) → Agree plan.shape tell begun d n
+    → Alike plan.shape tell begun Nothing (program_does time project plan.pou d) (bodies_do levels tell program (pos time) k origin [] n)

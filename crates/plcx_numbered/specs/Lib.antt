@@ -1,0 +1,4 @@
+pub mod Agreeing
+pub mod Prepared
+pub mod Right
+pub mod Laws

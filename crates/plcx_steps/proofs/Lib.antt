@@ -1,0 +1,5 @@
+pub mod Places
+pub mod Standards
+pub mod Typing
+pub mod Loops
+pub mod Rooms

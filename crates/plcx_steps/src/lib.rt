@@ -1,0 +1,16 @@
+//! Prepared programs, and the scan of one over the numbers of its leaves, memories and wires.
+#![tactic(auto)]
+
+mod acting;
+mod program;
+mod running;
+mod state;
+mod watching;
+
+pub use acting::Spot;
+pub use program::{
+    Action, Argument, Body, Instance, Jump, Network, Operand, Program, Source, Step,
+};
+pub use running::scan;
+pub use state::{State, Stop, Watch};
+pub use watching::{LogWatch, Silent, Told};
