@@ -2,4 +2,5 @@
 pub mod Leaves
 pub mod Within
 pub mod Suits
+pub mod Memories
 pub mod Laws

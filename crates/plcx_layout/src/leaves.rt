@@ -20,9 +20,9 @@ use std::alloc::Global;
 
 /// What is said of a variable by its list and the instance that it stands in.
 #[derive(Clone, Copy)]
-struct Marks {
-    retained: bool,
-    constant: bool,
+pub(crate) struct Marks {
+    pub(crate) retained: bool,
+    pub(crate) constant: bool,
 }
 
 /// A variable's initial value; one that isn't given is the type's default.
@@ -143,7 +143,8 @@ fn is_kept(class: ListClass) -> bool
     !matches!(class, ListClass::InOut)
 }
 
-fn lists_at(pous: &[Pou], place: u32) -> &[VarList]
+/// The lists of the POU at a place.
+pub(crate) fn lists_at(pous: &[Pou], place: u32) -> &[VarList]
     ensures { result.now ≡ lists_at pous.now place }
 {
     match pous.get(place as usize) {
@@ -153,7 +154,7 @@ fn lists_at(pous: &[Pou], place: u32) -> &[VarList]
 }
 
 /// What a list says of its variables, in an instance that is retained or not.
-fn marks_of(list: &VarList, retained: bool) -> Marks
+pub(crate) fn marks_of(list: &VarList, retained: bool) -> Marks
     ensures retained { result.retained ≡ (retained || is_retain (mark_of list.now)) }
     ensures constant { result.constant ≡ is_constant (mark_of list.now) }
 {
