@@ -37,7 +37,7 @@ use Rattle.plcx_fits.proofs.Lists.{each_place}
 use Rattle.plcx_fits.proofs.Spelled.{kind_of_name, seen, whole}
 use Rattle.plcx_fits.proofs.Variables.{is_block, variables_differ}
 use Rattle.plcx_fits.proofs.Nests.{block_world}
-use Rattle.plcx_layout.specs.Leaves.{leaf_by, standard_leaves, type_leaves, variable_leaves, list_leaves, leaves}
+use Rattle.plcx_layout.specs.Leaves.{leaf_by, standard_leaves, type_leaves, variable_leaves, list_leaves, leaves, program_leaves}
 use Rattle.plcx_layout.specs.Laws.{LeavesAreLaid}
 
 -- ---- lists
@@ -241,5 +241,6 @@ module _ (project : Project) (links : Links) (types : Types) (plan : Plan) (soun
       lists_laid n (pou_laid n) c world names retained kept p.lists (types_known p s) found
 
 pub leaves_laid : LeavesAreLaid
+unfolding program_leaves
 leaves_laid project links types plan sound i p here =
     pou_laid project links types plan sound 18 (scope_of (whole project links types plan) (seen project links types plan i p)) refl [] false p (each_place (PouIsSound project.pous) project.pous i p here sound.pous) refl refl

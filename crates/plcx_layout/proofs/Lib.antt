@@ -2,3 +2,5 @@ mod Laid
 pub mod Standing
 mod Stands
 pub mod Remembered
+pub mod Suited
+pub mod Layouts

@@ -34,7 +34,7 @@ use Rattle.plcx_fits.specs.Laws.{CheckedFits}
 use Rattle.plcx_fits.proofs.Lists.{each_place}
 use Rattle.plcx_fits.proofs.Nests.{leaves_fit}
 use Rattle.plcx_fits.proofs.Spelled.{seen, whole}
-use Rattle.plcx_layout.specs.Leaves.{Inner, leaf_by, standard_leaves, lists_at, type_leaves, variable_leaves, list_leaves, leaves}
+use Rattle.plcx_layout.specs.Leaves.{Inner, leaf_by, standard_leaves, lists_at, type_leaves, variable_leaves, list_leaves, leaves, program_leaves}
 use Rattle.plcx_layout.specs.Laws.{LeavesStand}
 use Rattle.plcx_layout.proofs.Laid.{leaves_laid}
 
@@ -122,6 +122,7 @@ seen_at P project links types plan k (q ∷ ps) (suc i) p at all =
     subst (λ j. P (seen project links types plan j p)) next (seen_at P project links types plan (k + 1) ps i p at all.1)
 
 pub stand : CheckedFits → LeavesStand
+unfolding program_leaves
 stand fit project links types plan c i p here ls are =
     let dia = whole project links types plan in
     let q = seen project links types plan i p in

@@ -60,5 +60,5 @@ leaves zero pous names retained lists = []
 leaves (suc n) pous names retained lists = flat_map (list_leaves n (leaves n pous) pous names retained) lists
 
 -- the leaves of a program
-abbrev pub program_leaves : List Pou → Pou → List Leaf
+unfoldable pub program_leaves : List Pou → Pou → List Leaf
 program_leaves pous p = leaves 18 pous [] false p.lists

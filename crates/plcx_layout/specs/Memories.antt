@@ -1,5 +1,5 @@
 -- What the elements of a program remember, in the order of its memories.
-use Rattle.std.specs.Prelude.{ℕ, zero, suc, Bool, ◌||◌, List, [], ◌∷◌, ◌++◌, map, get_or, if◌then◌else◌}
+use Rattle.std.specs.Prelude.{ℕ, zero, suc, Bool, false, ◌||◌, List, [], ◌∷◌, ◌++◌, map, get_or, if◌then◌else◌}
 use Rattle.std.specs.List.{flat_map}
 use Rattle.plcx_types.specs.declared.ty.Ty.{Ty}
 use Rattle.plcx_types.specs.declared.ty.Ty.TheVariants as ty
@@ -51,3 +51,7 @@ abbrev pub memories : (levels : ℕ) → List Pou → List (List DiagramElement)
 memories zero pous drawn retained place = []
 memories (suc n) pous drawn retained place =
     flat_map (element_memories retained) (elements_at drawn place) ++ flat_map (list_memories (memories n pous drawn) retained) (lists_at pous place)
+
+-- what the program at a place remembers
+unfoldable pub program_memories : List Pou → List (List DiagramElement) → ℕ → List Memory
+program_memories pous drawn place = memories 18 pous drawn false place

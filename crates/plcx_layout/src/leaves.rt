@@ -176,7 +176,8 @@ fn with_variable(
     variable: &Variable,
 ) -> Result<Vec<Leaf>, NoMemory>
     ensures typed { IfOk result (λ more. PousSuit pous.now → Suits variable.now → Each BeginsTyped leaves.items → Each BeginsTyped more.items) }
-    ensures shown { IfOk result (λ more. all_meant more.items ≡ all_meant leaves.items ++ type_leaves levels (specs.leaves levels pous.now) pous.now (variable.now.name ∷ spelled within.now) marks.retained marks.constant variable.now.initial variable.now.ty) }
+    ensures shown { IfOk result (λ more. all_meant more.items ≡ all_meant leaves.items
+        ++ type_leaves levels (specs.leaves levels pous.now) pous.now (variable.now.name ∷ spelled within.now) marks.retained marks.constant variable.now.initial variable.now.ty) }
 {
     let mut more = leaves;
     match variable.ty {
@@ -262,6 +263,7 @@ fn with_lists(
 }
 
 /// The leaves of a program, which stands among these POUs.
+#[tactic(auto, unfolding(crate::specs::Leaves::program_leaves))]
 pub fn program_leaves(alloc: Global, pous: &[Pou], program: &Pou) -> Result<Vec<Leaf>, NoMemory>
     ensures typed { IfOk result (λ leaves. PousSuit pous.now → Each ListSuits program.now.lists → Each BeginsTyped leaves.items) }
     ensures leaves { IfOk result (λ leaves. all_meant leaves.items ≡ program_leaves pous.now program.now) }

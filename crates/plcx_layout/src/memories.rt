@@ -1,9 +1,9 @@
 //! What the elements of a program remember, instance by instance.
-ghost use Rattle.std.specs.Prelude.{◌≡◌, ◌++◌, false, IfOk};
+ghost use Rattle.std.specs.Prelude.{◌≡◌, ◌++◌, IfOk};
 ghost use Rattle.std.specs.List.{flat_map};
 ghost use Rattle.plcx_meaning.specs.Diagram.{has_edge};
 ghost use Rattle.plcx_drawn.specs.Shown.{shown_kind, shown_element};
-ghost use Rattle.plcx_layout.specs.Memories.{element_memories, elements_at, all_elements, list_memories};
+ghost use Rattle.plcx_layout.specs.Memories.{element_memories, elements_at, all_elements, list_memories, program_memories};
 ghost use Rattle.plcx_layout.specs.Memories as specs;
 
 use crate::leaves::{lists_at, marks_of};
@@ -117,13 +117,14 @@ fn with_pou(
 }
 
 /// What the program at a place remembers, by the drawings of all POUs.
+#[tactic(auto, unfolding(crate::specs::Memories::program_memories))]
 pub fn program_memories(
     alloc: Global,
     pous: &[Pou],
     drawings: &[Drawing],
     place: u32,
 ) -> Result<Vec<Memory>, NoMemory>
-    ensures { IfOk result (λ memories. memories.items ≡ specs.memories 18 pous.now (all_elements drawings.now) false place) }
+    ensures { IfOk result (λ memories. memories.items ≡ program_memories pous.now (all_elements drawings.now) place) }
 {
     Ok(with_pou(Vec::new(alloc), pous, drawings, 18, false, place)?)
 }
