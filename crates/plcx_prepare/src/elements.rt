@@ -129,7 +129,9 @@ fn kind<N: Numbers>(
     match kind {
         ElementKind::Still | ElementKind::Label(_) => Ok(steps),
         ElementKind::In {
-            negated, operand, ..
+            negated,
+            operand,
+            ..
         } => Ok(read(numbers, steps, id, *negated, operand)?),
         ElementKind::Out {
             how,
@@ -214,7 +216,9 @@ fn bindings_of<N: Numbers>(
 {
     match kind {
         ElementKind::Call {
-            instance, in_outs, ..
+            instance,
+            in_outs,
+            ..
         } => Ok(with_bindings(numbers, alloc, given, instance, in_outs.as_slice())?),
         _ => Ok(given),
     }

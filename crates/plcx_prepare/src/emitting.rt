@@ -25,11 +25,7 @@ pub(crate) fn act(steps: Vec<Step>, action: Action) -> Result<Vec<Step>, NoMemor
 }
 
 /// So many steps are passed over unless the source is TRUE.
-pub(crate) fn skip(
-    steps: Vec<Step>,
-    unless: Source,
-    count: usize,
-) -> Result<Vec<Step>, NoMemory>
+pub(crate) fn skip(steps: Vec<Step>, unless: Source, count: usize) -> Result<Vec<Step>, NoMemory>
     ensures { IfOk result (λ more. more.items ≡ steps.items ++ Skip unless count ∷ []) }
 {
     let _no_action: Option<Action> = None;

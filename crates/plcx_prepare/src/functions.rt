@@ -104,7 +104,13 @@ pub(crate) fn with_arguments<N: Numbers>(
     let mut own = wire;
     for link in links {
         let source = link_source(numbers, own, link);
-        all = put(all, Argument { ty: link.ty, source })?;
+        all = put(
+            all,
+            Argument {
+                ty: link.ty,
+                source,
+            },
+        )?;
         own = next(own)?;
     }
     Ok(all)

@@ -50,12 +50,7 @@ pub(crate) fn store(
 }
 
 /// Two are joined by AND into a wire.
-fn and(
-    steps: Vec<Step>,
-    left: Source,
-    right: Source,
-    wire: usize,
-) -> Result<Vec<Step>, NoMemory>
+fn and(steps: Vec<Step>, left: Source, right: Source, wire: usize) -> Result<Vec<Step>, NoMemory>
     ensures { IfOk result (λ more. more.items ≡ steps.items ++ Act (And left right wire) ∷ []) }
 {
     Ok(act(steps, Action::And { left, right, wire })?)
