@@ -8,9 +8,9 @@ use Rattle.plcx_state.specs.declared.layout.Leaf.{Leaf}
 use Rattle.plcx_state.specs.Layouts.{all_meant}
 use Rattle.plcx_scan.specs.declared.column.Column.{Column}
 use Rattle.plcx_scan.specs.declared.event.Event.{Event}
-use Rattle.plcx_scan.specs.Events.{meant_events, CanFollow}
+use Rattle.plcx_scan.specs.Events.{last_at_end, meant_events, CanFollow}
 use Rattle.plcx_scan.specs.Files.{Record, RecordsStandFor, IsFirstWrong, wrong}
-use Rattle.plcx_scan.specs.ReadFiles.{columns_of, row_event, last_at_end, rows_events, CanTell, IsUnread, WhyNotRows}
+use Rattle.plcx_scan.specs.ReadFiles.{columns_of, row_event, rows_events, CanTell, IsUnread, WhyNotRows}
 use Rattle.plcx_scan.specs.Errors.{WhyNotRecords}
 use Rattle.plcx_scan.specs.declared.reading.EventError.{EventError}
 use Rattle.plcx_scan.specs.declared.reading.EventError.TheVariants.{Row, NoMemory}

@@ -125,11 +125,6 @@ unfoldable pub row_event : List Column → ℕ → Record → Option Event
 row_event columns last row =
     if nat_eq (length row) (length columns + 2) then (if has_word row 0 (codes "scan") then scan_event columns last row else restart_event row) else None
 
--- the time of the last scan after events
-abbrev pub last_at_end : ℕ → List Event → ℕ
-last_at_end last [] = last
-last_at_end last (event ∷ events) = last_at_end (last_after last event) events
-
 -- records as events
 abbrev pub rows_events : List Column → ℕ → List Record → Option (List Event)
 rows_events columns last [] = Some []
