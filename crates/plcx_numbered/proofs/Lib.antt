@@ -8,3 +8,6 @@ pub mod Blocks
 pub mod Calling
 pub mod Elements
 pub mod Bodies
+pub mod Numbers
+pub mod Leaves
+pub mod Nested

@@ -1,4 +1,5 @@
 pub mod Agreeing
 pub mod Prepared
 pub mod Right
+pub mod Numbers
 pub mod Laws
