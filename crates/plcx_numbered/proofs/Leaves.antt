@@ -48,7 +48,7 @@ composed_standard world name k e = ap (λ o. elim o [ Some j ↦ variables_of (p
 -- ---- the depth doesn't matter where it is enough
 
 -- the leaves of a standard block are one level
-pins_steady : (n m : ℕ) (world : World) (k : StdKind) → places (suc n) world (variables_of (pin_blocks k)) ≡ places (suc m) world (variables_of (pin_blocks k))
+pub pins_steady : (n m : ℕ) (world : World) (k : StdKind) → places (suc n) world (variables_of (pin_blocks k)) ≡ places (suc m) world (variables_of (pin_blocks k))
 pins_steady n m world kind.Ton = refl
 pins_steady n m world kind.Tof = refl
 pins_steady n m world kind.Tp = refl
@@ -65,7 +65,7 @@ flat_same f g [] h = refl
 flat_same f g (x ∷ xs) h = ap₂ (λ a b. a ++ b) h.0 (flat_same f g xs h.1)
 
 -- a variable by what its type stands for
-abbrev meant_by : World → List ℕ → Option Ty → Meaning
+abbrev pub meant_by : World → List ℕ → Option Ty → Meaning
 meant_by world name o = elim o [ Some t ↦ Elementary t | None ↦ Composed (composed world name) ]
 
 abbrev placed_by : (List Variable → List Place) → Bool → List ℕ → Meaning → List Place

@@ -11,3 +11,5 @@ pub mod Bodies
 pub mod Numbers
 pub mod Leaves
 pub mod Nested
+pub mod Variables
+pub mod Sources

@@ -1,5 +1,5 @@
 -- The numbers of a project's leaves, memories and wires, by what is declared.
-use Rattle.std.specs.Prelude.{ℕ, zero, suc, ◌+◌, Bool, true, false, List, [], ◌∷◌, ◌++◌, Option, Some, None, length, map, filter, nat_eq, max, if◌then◌else◌}
+use Rattle.std.specs.Prelude.{ℕ, zero, suc, ◌+◌, Bool, true, false, ◌&&◌, List, [], ◌∷◌, ◌++◌, Option, Some, None, length, map, filter, nat_eq, max, if◌then◌else◌}
 use Rattle.std.specs.List.{flat_map}
 use Rattle.std.specs.Str.{bytes_eq}
 use Rattle.plcx_types.specs.declared.ty.Ty.{Ty}
@@ -15,6 +15,8 @@ use Rattle.plcx_meaning.specs.Evaluate.{is_in_out, place_named, world_of}
 use Rattle.plcx_steps.specs.declared.program.Operand.TheVariants.{Leaf, InOut}
 use Rattle.plcx_numbered.specs.Agreeing.{Cell, Pin, Shape}
 use Rattle.plcx_numbered.specs.Prepared.{Callee, Block, User, Numbering, spares}
+use Rattle.plcx_numbered.specs.Right.{Plan, place}
+use Rattle.plcx_numbered.specs.Right.{Place as Standing}
 
 -- ---- leaves
 
@@ -89,10 +91,10 @@ number_of same [] k = 0
 number_of same (x ∷ xs) k = if same x k then 0 else number_of same xs k + 1
 
 abbrev pub same_cell : Cell → Cell → Bool
-same_cell x y = if same_path x.0 y.0 then same_memory x.1 y.1 else false
+same_cell x y = same_path x.0 y.0 && same_memory x.1 y.1
 
 abbrev pub same_pin : Pin → Pin → Bool
-same_pin x y = if nat_eq x.0 y.0 then bytes_eq (in_lower_case x.1) (in_lower_case y.1) else false
+same_pin x y = nat_eq x.0 y.0 && bytes_eq (in_lower_case x.1) (in_lower_case y.1)
 
 -- the outputs of elements, which are the first wires of a network
 abbrev pub pins_of : List DiagramElement → List Pin
@@ -155,3 +157,15 @@ numbering project p es = record {
   memory = λ k. number_of same_cell (flat_map element_cells p.elements) ([], k);
   callee = λ i. callee_of project p (in_lower_case i) (variable_named (in_lower_case i) (variables_of p.lists));
 }
+
+-- what is known of a POU
+abbrev pub plan_of : Project → Pou → Plan
+plan_of project p = record { pou = p; level = level inner_depth project p; shape = shape_of project p; in_outs = in_out_names (variables_of p.lists) }
+
+-- and of each POU, in the order of the project
+abbrev pub plans_of : Project → List Plan
+plans_of project = map (plan_of project) project
+
+-- where a network is prepared, with so many wires
+abbrev pub place_of : Project → Pou → List DiagramElement → ℕ → Standing
+place_of project p es width = place project (plans_of project) (plan_of project p) (numbering project p es) (pins_of es) width
