@@ -13,3 +13,4 @@ pub mod Leaves
 pub mod Nested
 pub mod Variables
 pub mod Sources
+pub mod Callees

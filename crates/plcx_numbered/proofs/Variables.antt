@@ -48,7 +48,7 @@ kept_class InOut a b = absurd (b refl)
 kept_class Temp a b = absurd (a refl)
 
 -- the leaves of a standard block
-pins_places : (n : ℕ) (world : World) (k : StdKind) → places (suc n) world (variables_of (pin_blocks k)) ≡ map (λ (p : Pin). (in_lower_case p.name ∷ [], p.ty)) (pins k)
+pub pins_places : (n : ℕ) (world : World) (k : StdKind) → places (suc n) world (variables_of (pin_blocks k)) ≡ map (λ (p : Pin). (in_lower_case p.name ∷ [], p.ty)) (pins k)
 pins_places n world kind.Ton = refl
 pins_places n world kind.Tof = refl
 pins_places n world kind.Tp = refl
