@@ -14,3 +14,4 @@ pub mod Nested
 pub mod Variables
 pub mod Sources
 pub mod Callees
+pub mod Rights
