@@ -15,3 +15,4 @@ pub mod Variables
 pub mod Sources
 pub mod Callees
 pub mod Rights
+pub mod Programs

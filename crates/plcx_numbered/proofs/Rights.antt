@@ -133,7 +133,7 @@ module _ (project : Project) (fits : ProjectFits project) (p : Pou) (one : PouFi
       }
 
   -- all of them, one after another
-  elements_right : length (pins_of es) + spare_wires es ≤ width → (rest : List DiagramElement) → ((e : DiagramElement) → Contains rest e → Contains es e) → (done : List (ℕ × Port)) → ((x : ℕ × Port) → Contains done x → Contains (pins_of es) (x.0, in_lower_case x.1.pin))
+  pub elements_right : length (pins_of es) + spare_wires es ≤ width → (rest : List DiagramElement) → ((e : DiagramElement) → Contains rest e → Contains es e) → (done : List (ℕ × Port)) → ((x : ℕ × Port) → Contains done x → Contains (pins_of es) (x.0, in_lower_case x.1.pin))
       → ElementsFit project p done rest → Each (RightElement (place_of project p es width)) rest
   elements_right room [] among done known h = tt
   elements_right room (e ∷ rest) among done known h =

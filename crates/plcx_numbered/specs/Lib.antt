@@ -2,4 +2,5 @@ pub mod Agreeing
 pub mod Prepared
 pub mod Right
 pub mod Numbers
+pub mod Programs
 pub mod Laws
