@@ -1,9 +1,9 @@
 -- What an instance calls has the right numbers.
-use Rattle.std.proofs.Common.{◌≡◌, ◌≢◌, ℕ, zero, suc, ◌+◌, ◌<◌, ◌≤◌, Bool, true, false, List, [], ◌∷◌, ◌++◌, length, map, filter, Option, Some, None, refl, sym, ap, ap₂, ◌∙◌, subst, arith, inl, inr, append_assoc}
+use Rattle.std.proofs.Common.{◌≡◌, ℕ, zero, suc, ◌+◌, Bool, true, false, List, [], ◌∷◌, ◌++◌, length, map, filter, Option, Some, None, refl, sym, ap, ◌∙◌, subst, arith}
 use Rattle.std.specs.Prelude.{slice_get, option_map, not, ◌&&◌, ◌||◌, if◌then◌else◌}
-use Rattle.std.specs.List.{flat_map, list_any, list_all, Contains}
+use Rattle.std.specs.List.{flat_map, list_any, Contains}
 use Rattle.std.specs.Str.{bytes_eq}
-use Rattle.std.proofs.lemmas.Bool.{and_parts, not-true, true≢false}
+use Rattle.std.proofs.lemmas.Bool.{and_parts, true≢false}
 use Rattle.std.proofs.lemmas.Option.{slice_get-map}
 use Rattle.plcx_types.specs.declared.ty.Ty.{Ty}
 use Rattle.plcx_types.specs.Name.{in_lower_case}
@@ -13,19 +13,19 @@ use Rattle.plcx_std.specs.Kind.{kind_named}
 use Rattle.plcx_std.specs.Pins.{Pin as Leaf', pins}
 use Rattle.plcx_meaning.specs.Base.{Path, Memory, are_distinct}
 use Rattle.plcx_meaning.specs.Tree as tree
-use Rattle.plcx_meaning.specs.Layout.{Variable, variables_of, variable_named, composed}
-use Rattle.plcx_meaning.specs.Diagram.{InputPin, InOutPin, OutputPin, Port, DiagramElement, Pou, Project, block_named, is_program}
+use Rattle.plcx_meaning.specs.Layout.{Variable, variables_of, variable_named}
+use Rattle.plcx_meaning.specs.Diagram.{InOutPin, Port, DiagramElement, Pou, Project, block_named, is_program}
 use Rattle.plcx_meaning.specs.Evaluate.{bind, place_named, world_of, is_in_out}
-use Rattle.plcx_meaning.specs.Fits.{IsVariable, IsInstance, InOutFits, all_listed, CallFits, Standing, PouFits, PouNests, ProjectFits}
-use Rattle.plcx_meaning.proofs.Lists.{each_at, each_weaker, each_from, distinct_parts, none_passes, contains_map, contains_cases, contains_none, contains_first, contains_later}
-use Rattle.plcx_meaning.proofs.Names.{bytes_same, same_bytes, bytes_swapped}
+use Rattle.plcx_meaning.specs.Fits.{IsInstance, InOutFits, all_listed, PouFits, PouNests, ProjectFits}
+use Rattle.plcx_meaning.proofs.Lists.{each_at, each_weaker, distinct_parts, none_passes, contains_map, contains_first, contains_later}
+use Rattle.plcx_meaning.proofs.Names.{bytes_same, same_bytes}
 use Rattle.plcx_meaning.proofs.Units.{variable_there, block_there}
 use Rattle.plcx_meaning.proofs.Lookups.{found_name}
-use Rattle.plcx_numbered.specs.Agreeing.{Cell, Lies}
+use Rattle.plcx_numbered.specs.Agreeing.{Cell}
 use Rattle.plcx_numbered.specs.Prepared.{Callee, Block, User, bound_variable}
-use Rattle.plcx_numbered.specs.Right.{IsOperand, IsBlock, IsBound, IsUser, instance_at, RightCallee}
-use Rattle.plcx_numbered.specs.Numbers.{Place, places, first_leaf, element_cells, instance_cells, cells_behind, cells, level, instance_level, in_out_names, places_of, inner_depth, depth, shape_of, leaf_count, cell_count, callee_of, plan_of, plans_of, place_of, user_of}
-use Rattle.plcx_numbered.proofs.Leaves.{composed_user, composed_standard, names_of, past_front, from_first}
+use Rattle.plcx_numbered.specs.Right.{IsOperand, IsBound, RightCallee}
+use Rattle.plcx_numbered.specs.Numbers.{Place, places, first_leaf, element_cells, instance_cells, cells_behind, cells, level, instance_level, in_out_names, places_of, inner_depth, depth, leaf_count, cell_count, callee_of, plan_of, place_of}
+use Rattle.plcx_numbered.proofs.Leaves.{composed_user, composed_standard, past_front, from_first}
 use Rattle.plcx_numbered.proofs.Nested.{is_user, nests_below, cells_steady, levels_steady, highest_of}
 use Rattle.plcx_numbered.proofs.Nested as nested
 use Rattle.plcx_numbered.proofs.Variables.{pins_places, within_place, operand_right}

@@ -1,9 +1,9 @@
 -- The leaves of an instance lie side by side, however many levels are counted.
-use Rattle.std.proofs.Common.{◌≡◌, ℕ, zero, suc, ◌+◌, ◌<◌, ◌≤◌, Bool, true, false, List, [], ◌∷◌, ◌++◌, length, map, Option, Some, None, refl, sym, ap, ap₂, ◌∙◌, subst, append_assoc, append-nil, arith}
-use Rattle.std.specs.Prelude.{slice_get, option_map, if◌then◌else◌}
-use Rattle.std.specs.List.{flat_map, Contains}
+use Rattle.std.proofs.Common.{◌≡◌, ℕ, zero, suc, ◌+◌, ◌<◌, Bool, true, false, List, [], ◌∷◌, ◌++◌, length, map, Option, Some, None, refl, sym, ap, ap₂, ◌∙◌, arith}
+use Rattle.std.specs.Prelude.{slice_get, if◌then◌else◌}
+use Rattle.std.specs.List.{flat_map}
 use Rattle.std.specs.Str.{bytes_eq}
-use Rattle.std.proofs.lemmas.Option.{slice_get-map, same_Some}
+use Rattle.std.proofs.lemmas.Option.{same_Some}
 use Rattle.plcx_types.specs.declared.ty.Ty.{Ty}
 use Rattle.plcx_types.specs.Name.{in_lower_case}
 use Rattle.plcx_types.specs.TypeName.{type_named}
@@ -11,9 +11,9 @@ use Rattle.plcx_types.specs.Lists.{Each}
 use Rattle.plcx_std.specs.declared.kind.StdKind.{StdKind}
 use Rattle.plcx_std.specs.declared.kind.StdKind.TheVariants as kind
 use Rattle.plcx_std.specs.Kind.{kind_named}
-use Rattle.plcx_meaning.specs.Base.{Path, are_distinct}
+use Rattle.plcx_meaning.specs.Base.{are_distinct}
 use Rattle.plcx_meaning.specs.Standard.{pin_blocks}
-use Rattle.plcx_meaning.specs.Layout.{Variable, variables_of, variable_named, World, Meaning, Elementary, Composed, composed, meaning, Scope, Spelling, path_of, Leaf, is_kept, leaf_of, variable_leaves, leaves}
+use Rattle.plcx_meaning.specs.Layout.{Variable, variables_of, variable_named, World, Meaning, Elementary, Composed, composed, is_kept}
 use Rattle.plcx_meaning.specs.Diagram.{Pou, Project, block_named}
 use Rattle.plcx_meaning.specs.Evaluate.{world_of}
 use Rattle.plcx_meaning.specs.Fits.{PouNests}

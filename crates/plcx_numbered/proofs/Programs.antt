@@ -1,24 +1,23 @@
 -- What is prepared of a project that fits is right.
-use Rattle.std.proofs.Common.{◌≡◌, ◌≢◌, ℕ, zero, suc, ◌+◌, ◌<◌, ◌≤◌, pos, Bool, true, false, List, [], ◌∷◌, ◌++◌, length, length-append, map, replicate, Option, Some, None, refl, sym, ap, ap₂, ◌∙◌, subst, arith, inl, inr}
-use Rattle.std.specs.Prelude.{slice_get, option_map, not, nat_eq, ◌||◌, if◌then◌else◌}
+use Rattle.std.proofs.Common.{◌≡◌, ℕ, zero, suc, ◌+◌, ◌<◌, pos, Bool, true, false, List, [], ◌∷◌, ◌++◌, length, length-append, map, replicate, Option, Some, refl, sym, ap, ap₂, ◌∙◌, subst, arith, inl, inr}
+use Rattle.std.specs.Prelude.{slice_get, not, nat_eq, ◌||◌, if◌then◌else◌}
 use Rattle.std.specs.List.{flat_map, list_all, list_any, Contains, AllZip}
 use Rattle.std.specs.Str.{bytes_eq}
 use Rattle.std.proofs.lemmas.Bool.{and_parts, not-true, true≢false}
 use Rattle.std.proofs.lemmas.Bool.Decides.{Decides-eqb}
 use Rattle.std.proofs.lemmas.List.{length-map, length-replicate}
 use Rattle.std.proofs.lemmas.List.Elements.{Contains-append_left, Contains-append_right}
-use Rattle.std.proofs.lemmas.Option.{slice_get-map, same_Some}
+use Rattle.std.proofs.lemmas.Option.{same_Some}
 use Rattle.plcx_types.specs.Name.{in_lower_case}
 use Rattle.plcx_types.specs.Lists.{Each}
 use Rattle.plcx_types.specs.Value.{Value}
 use Rattle.plcx_funcs.specs.Applied.{value}
 use Rattle.plcx_meaning.specs.Base.{are_distinct}
-use Rattle.plcx_meaning.specs.Diagram.{ElementKind, Still, In, Out, Contact, Coil, Pass, Label, Jump, Return, Function, Call, Port, ports, DiagramElement, Pou, Project, has_jump}
+use Rattle.plcx_meaning.specs.Diagram.{ElementKind, Still, In, Out, Contact, Coil, Pass, Label, Jump, Return, Function, Call, Port, ports, DiagramElement, Pou, Project}
 use Rattle.plcx_meaning.specs.Evaluate.{leads_to, place_named}
-use Rattle.plcx_meaning.specs.Fits.{ElementsFit, fixed_by, is_fresh, PortsFit, PouFits, PouNests, ProjectFits}
+use Rattle.plcx_meaning.specs.Fits.{ElementsFit, fixed_by, PortsFit, PouFits, PouNests, ProjectFits}
 use Rattle.plcx_meaning.proofs.Lists.{each_at, each_from, each_append, each_map, contains_cases, contains_none, contains_first, contains_later, contains_map, none_passes, distinct_parts}
 use Rattle.plcx_meaning.proofs.Names.{bytes_self, same_bytes}
-use Rattle.plcx_steps.specs.declared.program.Jump.{Jump as Leap}
 use Rattle.plcx_steps.specs.declared.program.Network.{Network}
 use Rattle.plcx_steps.specs.declared.program.Body.{Body}
 use Rattle.plcx_steps.specs.declared.program.Program.{Program}
@@ -28,6 +27,8 @@ use Rattle.plcx_numbered.specs.Right.{Plan, RightElement, IsWire, lead, leaps, I
 use Rattle.plcx_numbered.specs.Numbers.{pins_of, spare_wires, numbering, plan_of, plans_of, place_of}
 use Rattle.plcx_numbered.specs.Programs.{network_wires, jump_of, IsNetworkOf, IsBodyOf, IsProgramOf}
 use Rattle.plcx_numbered.proofs.Numbers.{there_at, apart_none, apart_cons, apart_append, contains_append}
+use Rattle.plcx_numbered.proofs.Nested.{level_low}
+use Rattle.plcx_numbered.proofs.Sources.{distinct_of}
 use Rattle.plcx_numbered.proofs.Rights.{elements_right}
 
 -- ---- outputs are apart
@@ -212,9 +213,19 @@ module _ (project : Project) (fits : ProjectFits project) (program : Program) wh
           let b = body_at project program.bodies.items h.bodies k q.0 q.1 in
           let own = there_at project k q.0 q.1 in
           let one : PouFits project q.0 = each_at (PouFits project) project q.0 fits.pous own in
-          let nests : PouNests 16 project q.0 = each_at (PouNests 16 project) project q.0 fits.nests own in
-          (b.0, b.1, subst (λ pl. IsBody program project (plans_of project) k pl b.0) q.2 (record {
-            name = place_of_name project fits.names k q.0 q.1;
-            jumps = sym b.2.jumps;
-            networks = networks_right q.0 one nests q.0.networks one.networks b.0.networks.items b.2.networks;
-          }))
+          let nests : PouNests 16 project q.0 = each_at (PouNests 16 project) project q.0 fits.nests own in (
+            b.0,
+            b.1,
+            subst (λ pl. IsBody program project (plans_of project) k pl b.0) q.2 (record {
+              name = place_of_name project fits.names k q.0 q.1;
+              jumps = sym b.2.jumps;
+              networks = networks_right q.0 one nests q.0.networks one.networks b.0.networks.items b.2.networks;
+            }),
+          )
+
+-- no POU calls more than 16 levels of blocks
+pub plans_low : (project : Project) → ProjectFits project → Each (λ (plan : Plan). plan.level < 17) (plans_of project)
+plans_low project fits = each_map (λ (plan : Plan). plan.level < 17) (plan_of project) project (each_from _ project (λ p there.
+    let one : PouFits project p = each_at (PouFits project) project p fits.pous there in
+    let low = level_low project (distinct_of project fits) 16 p one.distinct (each_at (PouNests 16 project) project p fits.nests there) 17 in
+    omega arith))

@@ -1,30 +1,22 @@
 -- The elements of a project that fits have the right numbers.
-use Rattle.std.proofs.Common.{◌≡◌, ◌≢◌, ℕ, zero, suc, ◌+◌, ◌<◌, ◌≤◌, Bool, true, false, List, [], ◌∷◌, ◌++◌, length, map, filter, Option, Some, None, refl, sym, ap, ap₂, ◌∙◌, subst, arith, inl, inr}
-use Rattle.std.specs.Prelude.{slice_get, option_map, codes, not, nat_eq, max, is_some, ◌&&◌, ◌||◌, if◌then◌else◌}
-use Rattle.std.specs.List.{flat_map, list_all, list_any, Contains}
-use Rattle.std.specs.Str.{bytes_eq}
-use Rattle.std.proofs.lemmas.Bool.{and_parts, not-true, true≢false}
-use Rattle.std.proofs.lemmas.Bool.Decides.{Decides-eqb}
-use Rattle.std.proofs.lemmas.List.Elements.{Contains-append_left, Contains-append_right}
-use Rattle.plcx_types.specs.declared.ty.Ty.{Ty}
+use Rattle.std.proofs.Common.{◌≡◌, ◌≢◌, ℕ, ◌+◌, ◌≤◌, Bool, true, false, List, [], ◌∷◌, ◌++◌, length, map, filter, refl, sym, ap, ◌∙◌, subst, arith, inl, inr}
+use Rattle.std.specs.Prelude.{codes, if◌then◌else◌}
+use Rattle.std.specs.List.{Contains}
 use Rattle.plcx_types.specs.declared.ty.Ty.TheVariants as ty
 use Rattle.plcx_types.specs.Name.{in_lower_case}
 use Rattle.plcx_types.specs.Lists.{Each}
-use Rattle.plcx_meaning.specs.Base.{AtEdge, AtOutput, are_distinct}
+use Rattle.plcx_meaning.specs.Base.{AtEdge, AtOutput}
 use Rattle.plcx_meaning.specs.Tree as tree
-use Rattle.plcx_meaning.specs.Layout.{variables_of}
 use Rattle.plcx_meaning.specs.Functions.{out_type}
-use Rattle.plcx_meaning.specs.Diagram.{Link, Contacting, Open, Closed, RisingContact, FallingContact, Coiling, By, RisingCoil, FallingCoil, Enable, has_eno, eno_ports, output_ports, InputPin, InOutPin, OutputPin, ElementKind, Still, In, Out, Contact, Coil, Pass, Label, Jump, Return, Function, Call, Port, port, ports, has_edge, is_fed, DiagramElement, Pou, Project}
-use Rattle.plcx_meaning.specs.Fits.{HasType, IsInstance, KindFits, ElementsFit, fixed_by, is_fresh, PortsFit, Standing, PouFits, PouNests, ProjectFits}
-use Rattle.plcx_meaning.proofs.Lists.{each_at, each_weaker, each_from, contains_cases, contains_none, contains_first, contains_later, contains_map, none_passes, distinct_parts}
-use Rattle.plcx_meaning.proofs.Names.{same_bytes}
-use Rattle.plcx_numbered.specs.Agreeing.{AreApart, Pin}
+use Rattle.plcx_meaning.specs.Diagram.{Contacting, Open, Closed, RisingContact, FallingContact, Coiling, By, RisingCoil, FallingCoil, Enable, has_eno, eno_ports, output_ports, OutputPin, ElementKind, Still, In, Out, Contact, Coil, Pass, Label, Jump, Return, Function, Call, Port, port, ports, has_edge, is_fed, DiagramElement, Pou, Project}
+use Rattle.plcx_meaning.specs.Fits.{KindFits, ElementsFit, fixed_by, PortsFit, PouFits, PouNests, ProjectFits}
+use Rattle.plcx_meaning.proofs.Lists.{each_at, each_weaker, each_from, contains_cases, contains_none, contains_first, contains_later}
 use Rattle.plcx_numbered.specs.Prepared.{spares}
-use Rattle.plcx_numbered.specs.Right.{IsWire, IsCell, IsInner, RightContact, RightCoil, RightLink, RightKind, RightCall, RightElement}
-use Rattle.plcx_numbered.specs.Numbers.{pins_of, spare_wires, place_of, element_cells}
-use Rattle.plcx_numbered.proofs.Numbers.{place_in, there_at, contains_append, apart_none, apart_cons, apart_append}
+use Rattle.plcx_numbered.specs.Right.{IsWire, IsCell, RightContact, RightCoil, RightKind, RightElement}
+use Rattle.plcx_numbered.specs.Numbers.{pins_of, spare_wires, place_of}
+use Rattle.plcx_numbered.proofs.Numbers.{contains_append}
 use Rattle.plcx_numbered.proofs.Variables.{operand_right}
-use Rattle.plcx_numbered.proofs.Sources.{distinct_of, wire_right, output_there, cell_right, edge_there, fed_there, Known, link_right, enable_right, inner_right, read_right}
+use Rattle.plcx_numbered.proofs.Sources.{distinct_of, wire_right, output_there, cell_right, edge_there, fed_there, link_right, enable_right, inner_right, read_right}
 use Rattle.plcx_numbered.proofs.Callees.{callee_right}
 
 each_split : {A : Type 0} (P : A → Type 0) (xs ys : List A) → Each P (xs ++ ys) → Each P xs × Each P ys
@@ -84,8 +76,7 @@ module _ (project : Project) (fits : ProjectFits project) (p : Pou) (one : PouFi
   kind_right done known (Jump label link) id h w edge = (link_right project fits p one nests es width done known link h.0, w.0)
   kind_right done known (Return link) id h w edge = (link_right project fits p one nests es width done known link h.0, w.0)
   kind_right done known (Function f t enable inputs negated) id h w edge =
-      let parts = each_split (W id) (eno_ports enable) (port (codes "OUT") (out_type f t) ∷ []) w in
-      (
+      let parts = each_split (W id) (eno_ports enable) (port (codes "OUT") (out_type f t) ∷ []) w in (
         enable_right project fits p one nests es width done known id enable h.1 (eno_right id enable parts.0),
         each_weaker _ _ inputs (λ l k. link_right project fits p one nests es width done known l k) h.0.inputs,
         parts.1.0,
@@ -137,8 +128,7 @@ module _ (project : Project) (fits : ProjectFits project) (p : Pou) (one : PouFi
       → ElementsFit project p done rest → Each (RightElement (place_of project p es width)) rest
   elements_right room [] among done known h = tt
   elements_right room (e ∷ rest) among done known h =
-      let there = among e (contains_first e rest) in
-      (
+      let there = among e (contains_first e rest) in (
         element_right room done known e there h.0 h.2,
         elements_right room rest (λ f k. among f (contains_later e rest f k)) (fixed_by e ++ done)
             (λ x k. elim (contains_append (fixed_by e) done x k) [

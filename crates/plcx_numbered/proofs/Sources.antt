@@ -1,20 +1,20 @@
 -- The numbers of outputs, memories, links and operands of the elements of a network are right.
-use Rattle.std.proofs.Common.{◌≡◌, ◌≢◌, ℕ, zero, suc, ◌+◌, ◌<◌, ◌≤◌, Bool, true, false, List, [], ◌∷◌, ◌++◌, length, map, Option, Some, None, refl, sym, ap, ap₂, ◌∙◌, subst, arith, inl, inr}
-use Rattle.std.specs.Prelude.{slice_get, option_map, codes, if◌then◌else◌}
+use Rattle.std.proofs.Common.{◌≡◌, ◌≢◌, ℕ, Bool, true, false, List, [], ◌∷◌, map, refl, sym, ap, ◌∙◌, subst}
+use Rattle.std.specs.Prelude.{option_map, codes, if◌then◌else◌}
 use Rattle.std.specs.List.{flat_map, Contains}
 use Rattle.std.proofs.lemmas.Option.{slice_get-map}
 use Rattle.std.proofs.lemmas.List.Elements.{Contains-append_left, Contains-append_right}
 use Rattle.plcx_types.specs.declared.ty.Ty.{Ty}
 use Rattle.plcx_types.specs.Name.{in_lower_case}
 use Rattle.plcx_types.specs.Lists.{Each}
-use Rattle.plcx_meaning.specs.Base.{Path, Memory, AtEdge, AtOutput, are_distinct}
+use Rattle.plcx_meaning.specs.Base.{Memory, AtEdge, AtOutput}
 use Rattle.plcx_meaning.specs.Tree as tree
-use Rattle.plcx_meaning.specs.Layout.{Variable, variables_of, variable_named}
+use Rattle.plcx_meaning.specs.Layout.{Variable, variables_of}
 use Rattle.plcx_meaning.specs.Diagram as diagram
 use Rattle.plcx_meaning.specs.Diagram.{Link, Enable, has_eno, eno_ports, Port, port, ports, has_edge, DiagramElement, Pou, Project, block_named}
 use Rattle.plcx_meaning.specs.Evaluate.{world_of}
-use Rattle.plcx_meaning.specs.Fits.{HasType, IsVariable, IsInstance, FeedsBack, SourceFits, LinkFits, OperandFits, EnableFits, Standing, PouFits, PouNests, ProjectFits}
-use Rattle.plcx_meaning.proofs.Lists.{each_at, each_weaker, each_from, each_append, each_map, each_flat_map, contains_first, contains_later, contains_map, contains_flat_map}
+use Rattle.plcx_meaning.specs.Fits.{HasType, IsInstance, SourceFits, LinkFits, OperandFits, EnableFits, Standing, PouFits, PouNests, ProjectFits}
+use Rattle.plcx_meaning.proofs.Lists.{each_weaker, each_from, each_append, each_map, each_flat_map, contains_first, contains_map, contains_flat_map}
 use Rattle.plcx_meaning.proofs.Names.{folded_twice}
 use Rattle.plcx_meaning.proofs.StaticsWorlds.{block_fits}
 use Rattle.plcx_numbered.specs.Agreeing.{Cell, Pin, plain_memory, plain_cell, plain_pin}

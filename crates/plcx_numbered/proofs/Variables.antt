@@ -1,36 +1,34 @@
 -- The numbers of variables and of what lies within instances are right.
-use Rattle.std.proofs.Common.{◌≡◌, ◌≢◌, ℕ, zero, suc, ◌+◌, ◌<◌, ◌≤◌, Bool, true, false, List, [], ◌∷◌, ◌++◌, length, map, filter, Option, Some, None, refl, sym, ap, ap₂, ◌∙◌, subst, arith, inl, inr}
+use Rattle.std.proofs.Common.{◌≡◌, ◌≢◌, ℕ, suc, ◌+◌, Bool, true, false, List, [], ◌∷◌, ◌++◌, map, filter, Option, Some, None, refl, sym, ap, ◌∙◌, subst, arith, inl, inr}
 use Rattle.std.specs.Prelude.{slice_get, option_map, if◌then◌else◌}
-use Rattle.std.specs.List.{flat_map, Contains}
+use Rattle.std.specs.List.{Contains}
 use Rattle.std.specs.Str.{bytes_eq}
-use Rattle.std.proofs.lemmas.Option.{slice_get-map, same_Some}
+use Rattle.std.proofs.lemmas.Option.{slice_get-map}
 use Rattle.std.proofs.lemmas.Slice.Eq.{bytes_eq-Decides}
 use Rattle.plcx_types.specs.declared.ty.Ty.{Ty}
 use Rattle.plcx_types.specs.Name.{in_lower_case}
 use Rattle.plcx_types.specs.TypeName.{type_named}
-use Rattle.plcx_types.specs.Lists.{Each}
 use Rattle.plcx_std.specs.declared.kind.StdKind.{StdKind}
 use Rattle.plcx_std.specs.declared.kind.StdKind.TheVariants as kind
 use Rattle.plcx_std.specs.Kind.{kind_named}
 use Rattle.plcx_std.specs.Pins.{Pin, pins}
-use Rattle.plcx_meaning.specs.Base.{Path, are_distinct}
+use Rattle.plcx_meaning.specs.Base.{Path}
 use Rattle.plcx_meaning.specs.Standard.{pin_blocks}
 use Rattle.plcx_meaning.specs.Tree as tree
 use Rattle.plcx_meaning.specs.Tree.{Class, Local, Input, Output, InOut, Temp}
-use Rattle.plcx_meaning.specs.Layout.{Variable, variables_of, variable_named, World, Meaning, Elementary, Composed, composed, meaning, parts_of, parts, is_kept}
+use Rattle.plcx_meaning.specs.Layout.{Variable, variables_of, variable_named, World, composed, parts_of, parts, is_kept}
 use Rattle.plcx_meaning.specs.Diagram.{Pou, Project, DiagramElement, block_named}
 use Rattle.plcx_meaning.specs.Evaluate.{is_in_out, world_of}
-use Rattle.plcx_meaning.specs.Fits.{HasType, IsVariable, IsInstance, VariableFits, PouFits, PouNests}
-use Rattle.plcx_meaning.proofs.Lists.{each_at, each_weaker, each_from, contains_cases, contains_none, contains_first, contains_later, contains_map}
+use Rattle.plcx_meaning.specs.Fits.{IsVariable, VariableFits, PouFits, PouNests}
+use Rattle.plcx_meaning.proofs.Lists.{each_at, each_from, contains_cases, contains_none, contains_first, contains_later}
 use Rattle.plcx_meaning.proofs.Lookups.{found_name}
 use Rattle.plcx_meaning.proofs.Units.{variable_there}
 use Rattle.plcx_steps.specs.declared.program.Operand.TheVariants as operand
-use Rattle.plcx_numbered.specs.Prepared.{Numbering}
-use Rattle.plcx_numbered.specs.Right.{IsOperand, StandsFor, IsInner}
-use Rattle.plcx_numbered.specs.Numbers.{Place, behind, variable_places, places, first_leaf, number_of, in_out_names, places_of, inner_depth, depth, leaf_count, place_of, user_of}
+use Rattle.plcx_numbered.specs.Right.{IsOperand, StandsFor}
+use Rattle.plcx_numbered.specs.Numbers.{Place, behind, variable_places, places, first_leaf, number_of, in_out_names, places_of, inner_depth, depth, leaf_count, place_of}
 use Rattle.plcx_numbered.proofs.Numbers.{number_there}
-use Rattle.plcx_numbered.proofs.Leaves.{composed_user, composed_standard, names_of, AreDistinct, meant_by, places_steady, pins_steady, from_first}
-use Rattle.plcx_numbered.proofs.Nested.{IsUser, user_is, is_user, nests_below}
+use Rattle.plcx_numbered.proofs.Leaves.{composed_user, composed_standard, AreDistinct, meant_by, places_steady, pins_steady, from_first}
+use Rattle.plcx_numbered.proofs.Nested.{is_user, nests_below}
 
 -- ---- the leaves of one variable
 elementary_places : (f : List Variable → List Place) (world : World) (v : Variable) (t : Ty) → is_kept v.class ≡ true → type_named v.ty ≡ Some t → variable_places f world v ≡ (in_lower_case v.name ∷ [], t) ∷ []

@@ -1,15 +1,14 @@
 -- The numbers of a project's leaves, memories and wires, by what is declared.
-use Rattle.std.specs.Prelude.{ℕ, zero, suc, ◌+◌, Bool, true, false, ◌&&◌, List, [], ◌∷◌, ◌++◌, Option, Some, None, length, map, filter, nat_eq, max, if◌then◌else◌}
+use Rattle.std.specs.Prelude.{ℕ, zero, suc, ◌+◌, Bool, ◌&&◌, List, [], ◌∷◌, ◌++◌, Option, Some, None, length, map, filter, nat_eq, max, if◌then◌else◌}
 use Rattle.std.specs.List.{flat_map}
 use Rattle.std.specs.Str.{bytes_eq}
 use Rattle.plcx_types.specs.declared.ty.Ty.{Ty}
-use Rattle.plcx_types.specs.declared.ty.Ty.TheVariants as ty
 use Rattle.plcx_types.specs.Name.{in_lower_case}
 use Rattle.plcx_types.specs.TypeName.{type_named}
 use Rattle.plcx_std.specs.declared.kind.StdKind.TheVariants as kind
 use Rattle.plcx_std.specs.Kind.{kind_named}
-use Rattle.plcx_meaning.specs.Base.{Path, Memory, AtEdge, AtOutput, same_memory, same_path}
-use Rattle.plcx_meaning.specs.Layout.{Variable, variables_of, variable_named, World, Meaning, Elementary, Composed, meaning, parts_of, is_kept}
+use Rattle.plcx_meaning.specs.Base.{Path, AtEdge, AtOutput, same_memory, same_path}
+use Rattle.plcx_meaning.specs.Layout.{Variable, variables_of, variable_named, World, Elementary, Composed, meaning, parts_of, is_kept}
 use Rattle.plcx_meaning.specs.Diagram.{Port, ports, has_edge, DiagramElement, Pou, Project, block_named}
 use Rattle.plcx_meaning.specs.Evaluate.{is_in_out, place_named, world_of}
 use Rattle.plcx_steps.specs.declared.program.Operand.TheVariants.{Leaf, InOut}
@@ -138,9 +137,9 @@ callee_of project p key None = Block kind.Ton 0
 callee_of project p key (Some v) = elim (kind_named v.ty) [
   | Some k ↦ Block k (first_leaf (leaf_count project) key (variables_of p.lists))
   | None ↦ User (place_named v.ty project)
-        (first_leaf (leaf_count project) key (variables_of p.lists))
-        (length (flat_map element_cells p.elements) + first_leaf (cell_count project) key (variables_of p.lists))
-        (elim (block_named v.ty project) [ Some q ↦ in_out_names (variables_of q.lists) | None ↦ [] ])
+      (first_leaf (leaf_count project) key (variables_of p.lists))
+      (length (flat_map element_cells p.elements) + first_leaf (cell_count project) key (variables_of p.lists))
+      (elim (block_named v.ty project) [ Some q ↦ in_out_names (variables_of q.lists) | None ↦ [] ])
 ]
 
 -- the numbers that a network of a POU uses

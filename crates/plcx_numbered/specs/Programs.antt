@@ -1,5 +1,5 @@
 -- The prepared program of a project.
-use Rattle.std.specs.Prelude.{◌≡◌, ℕ, ◌+◌, pos, Bool, List, [], ◌∷◌, ◌++◌, Some, length, map, replicate, slice_get}
+use Rattle.std.specs.Prelude.{◌≡◌, ℕ, pos, List, [], ◌++◌, map, replicate}
 use Rattle.std.specs.List.{flat_map, AllZip}
 use Rattle.plcx_types.specs.Value.{Value}
 use Rattle.plcx_funcs.specs.Applied.{value}
