@@ -51,7 +51,7 @@ module _
 -- bytes have one text
 pub one_compiled : (one_root : (bytes : List ℕ) (a b : Element) → IsTreeOf bytes a → IsTreeOf bytes b → a ≡ b)
     (one_diagram : (project : Project) (links links' : Links) (types types' : Types) (plan plan' : Plan)
-        → IsChecked project links types plan → IsChecked project links' types' plan' → diagrams_of project links types plan ≡ diagrams_of project links' types' plan')
+    → IsChecked project links types plan → IsChecked project links' types' plan' → diagrams_of project links types plan ≡ diagrams_of project links' types' plan')
     → (bytes a b : List ℕ) → IsCompiled bytes a → IsCompiled bytes b → a ≡ b
 one_compiled one_root one_diagram bytes a b x y =
     let root : x.keeps.root ≡ y.keeps.root = one_root bytes x.keeps.root y.keeps.root x.keeps.tree y.keeps.tree in

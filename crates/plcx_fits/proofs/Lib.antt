@@ -1,7 +1,7 @@
-mod Lists
-mod Spelled
-mod Variables
-mod Nests
+pub mod Lists
+pub mod Spelled
+pub mod Variables
+pub mod Nests
 mod Along
 mod Places
 mod Pigeons

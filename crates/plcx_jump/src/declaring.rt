@@ -196,12 +196,7 @@ fn fed_decl(alloc: Global, id: u64, port: &Port) -> Result<Decl, NoMemory>
 ghost use Rattle.plcx_jump.specs.Texts.{edge_memories, fed_memory, wire_of, temporaries, blocks_of};
 
 /// What feeds back of an element.
-fn put_fed(
-    alloc: Global,
-    decls: &mut Vec<Decl>,
-    id: u64,
-    fed: &[Port],
-) -> Result<(), NoMemory>
+fn put_fed(alloc: Global, decls: &mut Vec<Decl>, id: u64, fed: &[Port]) -> Result<(), NoMemory>
     requires { Each DeclarationInRange (map (fed_memory id) (map shown_port fed.now)) }
     ensures { OnOk result (map decl_meant decls.new.items ≡ map decl_meant decls.old.items ++ map (fed_memory id) (map shown_port fed.now)) }
 {
@@ -240,12 +235,7 @@ fn wire_decl(alloc: Global, id: u64, port: &Port) -> Result<Decl, NoMemory>
 }
 
 /// These wires of an element.
-fn put_ports(
-    alloc: Global,
-    decls: &mut Vec<Decl>,
-    id: u64,
-    wires: &[Port],
-) -> Result<(), NoMemory>
+fn put_ports(alloc: Global, decls: &mut Vec<Decl>, id: u64, wires: &[Port]) -> Result<(), NoMemory>
     requires { Each DeclarationInRange (map (wire_of id) (map shown_port wires.now)) }
     ensures { OnOk result (map decl_meant decls.new.items ≡ map decl_meant decls.old.items ++ map (wire_of id) (map shown_port wires.now)) }
 {
@@ -276,11 +266,7 @@ fn wire_decls(alloc: Global, elements: &[Element]) -> Result<Vec<Decl>, NoMemory
 }
 
 /// The wires of all elements, and behind them the counter of a body that jumps.
-fn temporary_decls(
-    alloc: Global,
-    elements: &[Element],
-    jumps: bool,
-) -> Result<Vec<Decl>, NoMemory>
+fn temporary_decls(alloc: Global, elements: &[Element], jumps: bool) -> Result<Vec<Decl>, NoMemory>
     requires { Each DeclarationInRange (flat_map element_wires (map shown_element elements.now)) }
     ensures { IfOk result (λ decls. map decl_meant decls.items ≡ temporaries jumps (map shown_element elements.now)) }
 {

@@ -9,7 +9,7 @@ use std::test::Fail;
 const USAGE: &str =
     "plcx: usage: plcx ACTION FILE [EVENTS] [--program NAME] [--turns N] [--retain FILE]\n";
 
-pub const NOT_BUILT: &str = "plcx: not built\n";
+const NOT_BUILT: &str = "plcx: not built\n";
 
 /// What a call left behind.
 #[derive(Drop)]

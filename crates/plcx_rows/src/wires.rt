@@ -1,5 +1,5 @@
-//! One wire, from a value to a target: the rules from 20 on, in the order of testing, and the form that is compiled by now.
-use crate::tests::{NONE, NOT_BUILT, run_words};
+//! One wire, from a value to a target: the rules from 20 on, in the order of testing, and the text of a file that keeps them.
+use crate::tests::{NONE, run_words};
 use plcx_command::Status;
 use std::alloc::Global;
 use std::test::Fail;
@@ -45,15 +45,30 @@ fn judges_a_wire(rt: HostRuntime) -> Result<(), Fail> {
     Ok(())
 }
 
+/// The lists of the program, and what is behind them.
+fn text(alloc: Global, behind: &str) -> Result<String, Fail> {
+    Ok(format!(in alloc;
+        "PROGRAM Main\nVAR\n  B : BOOL;\n  S : SINT;\nEND_VAR\n{behind}END_PROGRAM\n"
+    )?)
+}
+
 #[test]
-fn accepts_a_wire_that_is_not_compiled_by_now(rt: HostRuntime) -> Result<(), Fail> {
+fn compiles_a_wire(rt: HostRuntime) -> Result<(), Fail> {
     let alloc = rt.alloc();
-    for value in ["S", "127", "SINT#-128"] {
+    for (value, behind) in [
+        (
+            "S",
+            "VAR_TEMP\n  PLCX_W1 : SINT;\nEND_VAR\n  PLCX_W1 := S;\n  S := PLCX_W1;\n",
+        ),
+        ("127", "  S := SINT#127;\n"),
+        ("SINT#-128", "  S := SINT#-128;\n"),
+    ] {
         let file = file(alloc, value, "1", "S")?;
+        let text = text(alloc, behind)?;
         let checked = run_words(alloc, &["check", "main.xml"], file.as_str(), NONE)?;
         assert!(rt; checked.is(Status::Done, "ok\n", ""), "at {value}");
         let compiled = run_words(alloc, &["compile", "main.xml"], file.as_str(), NONE)?;
-        assert!(rt; compiled.is(Status::NotBuilt, "", NOT_BUILT), "at {value}");
+        assert!(rt; compiled.is(Status::Done, text.as_str(), ""), "at {value}");
     }
     Ok(())
 }

@@ -1,10 +1,10 @@
 -- Facts on decimal digits and the numbers that they make.
-use Rattle.std.proofs.Common.{◌≡◌, ◌≤◌, ◌<◌, ◌+◌, ◌-◌, ◌*◌, ◌^◌, ◌∙◌, ℕ, Bool, true, false, List, [], ◌∷◌, drop, length, slice_index_or, arith, refl, sym, ap}
+use Rattle.std.proofs.Common.{◌≡◌, ◌≤◌, ◌<◌, ◌+◌, ◌-◌, ◌*◌, ◌^◌, ◌∙◌, ℕ, true, List, ◌∷◌, drop, length, slice_index_or, arith, sym}
 use Rattle.std.proofs.Math.Nat.{pow-le-pow_right}
 use Rattle.std.proofs.lemmas.Grind.{pow_more}
 use Rattle.std.proofs.lemmas.List.{at_drop_more}
 use Rattle.std.specs.List.{list_all}
-use Rattle.plcx_types.specs.Numeral.{is_digit, digit_value, number_from}
+use Rattle.plcx_types.specs.Numeral.{is_digit, digit_value}
 
 pub record IsDecimal (b : ℕ) : Type 0 where
   pub least : 48 ≤ b

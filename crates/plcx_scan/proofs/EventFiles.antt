@@ -1,21 +1,20 @@
 -- Whole files of events: what is read of them, and where they are wrong.
-use Rattle.std.proofs.Common.{◌≡◌, ◌<◌, ◌≤◌, ◌+◌, ◌∷◌, ◌++◌, ◌∙◌, ℕ, suc, List, [], Option, Some, None, take, length, get_or, refl, sym, ap, subst, arith, add-one}
+use Rattle.std.proofs.Common.{◌≡◌, ◌<◌, ◌+◌, ◌∷◌, ◌++◌, ◌∙◌, ℕ, suc, List, [], Some, None, take, length, get_or, refl, sym, ap, subst, arith}
 use Rattle.std.specs.Option.{option_map}
 use Rattle.std.proofs.lemmas.List.{take_more}
 use Rattle.std.proofs.lemmas.Option.{same_Some}
-use Rattle.plcx_meaning.specs.Layout.{Leaf as Meant}
 use Rattle.plcx_meaning.specs.Run as run
 use Rattle.plcx_state.specs.declared.layout.Leaf.{Leaf}
 use Rattle.plcx_state.specs.Layouts.{all_meant}
 use Rattle.plcx_scan.specs.declared.column.Column.{Column}
 use Rattle.plcx_scan.specs.declared.event.Event.{Event}
-use Rattle.plcx_scan.specs.Events.{meant_events, CanFollow}
-use Rattle.plcx_scan.specs.Files.{Record, IsHeader, AreEvents, RecordsStandFor, IsWrong, IsFirstWrong, nothing, wrong}
-use Rattle.plcx_scan.specs.ReadFiles.{columns_of, row_event, last_at_end, rows_events, CanTell, AreColumns, IsUnread, WhyNotRows}
+use Rattle.plcx_scan.specs.Events.{last_at_end, meant_events, CanFollow}
+use Rattle.plcx_scan.specs.Files.{Record, RecordsStandFor, IsFirstWrong, wrong}
+use Rattle.plcx_scan.specs.ReadFiles.{columns_of, row_event, rows_events, CanTell, IsUnread, WhyNotRows}
 use Rattle.plcx_scan.specs.Errors.{WhyNotRecords}
 use Rattle.plcx_scan.specs.declared.reading.EventError.{EventError}
 use Rattle.plcx_scan.specs.declared.reading.EventError.TheVariants.{Row, NoMemory}
-use Rattle.plcx_scan.proofs.EventRows.{rows_sound, rows_complete, rows_push, last_push}
+use Rattle.plcx_scan.proofs.EventRows.{rows_sound, rows_complete, rows_push}
 use Rattle.plcx_scan.proofs.Headers.{header_sound, header_complete}
 
 -- records that are read stand for what is read

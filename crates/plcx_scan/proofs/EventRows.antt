@@ -1,14 +1,13 @@
 -- The records behind a header: what is read of them is what they stand for.
-use Rattle.std.proofs.Common.{◌≡◌, ◌<◌, ◌≤◌, ◌+◌, ◌∷◌, ◌++◌, ◌∙◌, ℕ, zero, suc, ℤ, pos, Bool, true, false, true≢false, List, [], Option, Some, None, cond, map, drop, length, refl, sym, ap, ap₂, subst, arith, if◌then◌else◌}
-use Rattle.std.specs.Prelude.{slice_get, not, ◌&&◌, nat_eq, nat_lt, nat_le, codes}
+use Rattle.std.proofs.Common.{◌≡◌, ◌<◌, ◌≤◌, ◌+◌, ◌∷◌, ◌++◌, ◌∙◌, ℕ, suc, pos, Bool, true, false, List, [], Option, Some, None, map, length, refl, sym, ap, ap₂, subst, arith, if◌then◌else◌}
+use Rattle.std.specs.Prelude.{slice_get, ◌&&◌, nat_eq, nat_lt, nat_le, codes}
 use Rattle.std.specs.Option.{option_map, option_and_then}
 use Rattle.std.specs.List.{list_all}
 use Rattle.std.specs.Str.{bytes_eq}
 use Rattle.std.proofs.lemmas.Bool.{and_parts, and_from, eqb-true, eq-eqb, leb-true, le-leb, ltb-true, lt-ltb}
-use Rattle.std.proofs.lemmas.List.{map-append}
 use Rattle.std.proofs.lemmas.Option.{same_Some}
 use Rattle.std.proofs.lemmas.Slice.Eq.{bytes_eq-Decides}
-use Rattle.plcx_types.specs.Duration.{AreDigits, number}
+use Rattle.plcx_types.specs.Duration.{number}
 use Rattle.plcx_types.specs.Limits.{max_event_time}
 use Rattle.plcx_types.specs.Lists.{Each}
 use Rattle.plcx_types.specs.Literal.{StandsForValue}
@@ -23,17 +22,16 @@ use Rattle.plcx_meaning.specs.Layout as layout
 use Rattle.plcx_meaning.specs.Layout.{Leaf as Meant}
 use Rattle.plcx_meaning.specs.Run as run
 use Rattle.plcx_state.specs.declared.layout.Leaf.{Leaf}
-use Rattle.plcx_state.specs.Layouts.{meant, meant_path}
 use Rattle.plcx_state.proofs.Keeping.{stands_ranged}
 use Rattle.plcx_scan.specs.declared.column.Column.{Column}
 use Rattle.plcx_scan.specs.declared.event.Event.{Event}
 use Rattle.plcx_scan.specs.declared.event.Event.TheVariants.{Scan, Warm, Cold}
 use Rattle.plcx_scan.specs.declared.event.Input.{Input}
-use Rattle.plcx_scan.specs.Events.{path_of, meant_input, meant_event, meant_events, CanBeNext, CanFollow, last_after}
+use Rattle.plcx_scan.specs.Events.{last_at_end, path_of, meant_input, meant_event, meant_events, CanBeNext, CanFollow, last_after}
 use Rattle.plcx_scan.specs.Events as events
 use Rattle.plcx_scan.specs.Files.{Record, max_time_digits, IsTime, AreInputs, IsScan, IsRestart, IsEvent, AreEvents}
 use Rattle.plcx_scan.specs.Files as files
-use Rattle.plcx_scan.specs.ReadFiles.{field, has_word, are_time_digits, within_limit, time_of, input_of, field_inputs, inputs_of, scan_at, scan_after, scan_event, is_empty, is_word_alone, restart_event, row_event, last_at_end, rows_events, IsColumnOf, AreColumns}
+use Rattle.plcx_scan.specs.ReadFiles.{are_time_digits, within_limit, time_of, input_of, field_inputs, inputs_of, scan_at, scan_after, scan_event, is_empty, restart_event, row_event, rows_events, IsColumnOf, AreColumns}
 
 -- what a test lets through
 passed : {A : Type 0} (b : Bool) (o : Option A) (x : A) → (if b then o else None) ≡ Some x → (b ≡ true) × (o ≡ Some x)
@@ -280,11 +278,6 @@ rows_complete leaves ds cs of last (row ∷ rows) (m ∷ ms) h =
       ap (option_and_then (λ (e : Event). option_map (λ (x : List Event). e ∷ x) (rows_events ds (last_after last e) rows))) one.1 ∙ ap (option_map (λ (x : List Event). one.0 ∷ x)) rest.1,
       ap₂ (λ (x : run.Event) (xs : List run.Event). x ∷ xs) one.2 rest.2,
     )
-
--- the time of the last scan after one event more
-pub last_push : (last : ℕ) (es : List Event) (e : Event) → last_at_end last (es ++ e ∷ []) ≡ last_after (last_at_end last es) e
-last_push last [] e = refl
-last_push last (d ∷ es) e = last_push (last_after last d) es e
 
 -- one record more
 pub rows_push : (ds : List Column) (last : ℕ) (rows : List Record) (row : Record) (es : List Event) → rows_events ds last rows ≡ Some es

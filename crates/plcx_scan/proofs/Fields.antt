@@ -1,5 +1,5 @@
 -- The fields of a record by their places.
-use Rattle.std.proofs.Common.{◌≡◌, ◌∷◌, ℕ, zero, suc, List, [], Some, None, get_or, refl}
+use Rattle.std.proofs.Common.{◌≡◌, ◌∷◌, ℕ, zero, suc, List, [], None, get_or, refl}
 use Rattle.csv.specs.Records.{field_at}
 
 -- where there is no field, the one at the place is empty

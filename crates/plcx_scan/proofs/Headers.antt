@@ -1,10 +1,10 @@
 -- Headers: the columns that are read are those that its names stand for.
-use Rattle.std.proofs.Common.{◌≡◌, ◌<◌, ◌+◌, ◌∷◌, ◌++◌, ◌∙◌, ℕ, zero, suc, Bool, true, false, true≢false, List, [], Option, Some, None, cond, map, reverse, drop, set, length, get_or, refl, sym, ap, ap₂, subst, arith, if◌then◌else◌}
-use Rattle.std.specs.Prelude.{slice_get, slice_set, not, ◌&&◌, ◌||◌, codes}
+use Rattle.std.proofs.Common.{◌≡◌, ◌<◌, ◌∷◌, ◌∙◌, ℕ, zero, suc, Bool, true, false, true≢false, List, [], Option, Some, None, map, reverse, drop, length, refl, sym, ap, ap₂, subst, arith, if◌then◌else◌}
+use Rattle.std.specs.Prelude.{slice_get, slice_set, ◌&&◌, ◌||◌, codes}
 use Rattle.std.specs.Option.{option_map, option_and_then}
 use Rattle.std.specs.List.{list_any, Contains}
 use Rattle.std.specs.Str.{bytes_eq}
-use Rattle.std.proofs.lemmas.Bool.{and_parts, and_from, or_parts, false_from_ne_true}
+use Rattle.std.proofs.lemmas.Bool.{and_parts, or_parts, false_from_ne_true}
 use Rattle.std.proofs.lemmas.List.{length-map, length-reverse, length-set, append-nil}
 use Rattle.std.proofs.lemmas.Option.{same_Some, slice_get-map, slice_get_within, get_or_from_slice_get, slice_get_read}
 use Rattle.std.proofs.lemmas.Slice.Eq.{bytes_eq-Decides}
@@ -19,10 +19,9 @@ use Rattle.plcx_meaning.proofs.Lists.{IsNew, distinct_parts, distinct_from}
 use Rattle.plcx_state.specs.declared.layout.Leaf.{Leaf}
 use Rattle.plcx_state.specs.Layouts.{all_meant, meant, meant_path, dotted, LiesOutside}
 use Rattle.plcx_state.specs.Retains.{Pairwise}
-use Rattle.plcx_state.specs.Tables.{path_text, printed_at, IsTold}
+use Rattle.plcx_state.specs.Tables.{path_text, printed_at}
 use Rattle.plcx_state.proofs.Eaches.{each_get}
-use Rattle.plcx_state.proofs.Meaning.{set_elsewhere}
-use Rattle.plcx_state.proofs.Places.{printed_found, printed_is, one_place}
+use Rattle.plcx_state.proofs.Places.{printed_found, printed_is}
 use Rattle.plcx_scan.specs.declared.column.Column.{Column}
 use Rattle.plcx_scan.specs.Files.{Record, IsColumn, IsHeader}
 use Rattle.plcx_scan.specs.ReadFiles.{field, has_word, column_of, column_at, column_named, is_taken, untaken, columns_from, none_taken, columns_of, CanTell, IsColumnOf, AreColumns}

@@ -1,12 +1,10 @@
 -- Events that may follow, in the words of the meaning.
-use Rattle.std.proofs.Common.{◌≡◌, ◌∷◌, ◌∙◌, ℕ, List, [], Some, map, refl, sym, ap, subst}
-use Rattle.std.specs.Prelude.{slice_get}
+use Rattle.std.proofs.Common.{◌∷◌, ℕ, List, [], map, sym, ap}
 use Rattle.plcx_types.specs.Lists.{Each}
-use Rattle.plcx_meaning.specs.Layout.{Leaf as Meant}
 use Rattle.plcx_meaning.specs.Run as run
 use Rattle.plcx_meaning.proofs.Lists.{contains_map}
 use Rattle.plcx_state.specs.declared.layout.Leaf.{Leaf}
-use Rattle.plcx_state.specs.Layouts.{all_meant, meant, meant_path}
+use Rattle.plcx_state.specs.Layouts.{all_meant, meant}
 use Rattle.plcx_scan.specs.declared.event.Event.{Event}
 use Rattle.plcx_scan.specs.declared.event.Event.TheVariants.{Scan, Warm, Cold}
 use Rattle.plcx_scan.specs.declared.event.Input.{Input}

@@ -1,15 +1,12 @@
 -- A file stands for one list of events at most, and has one first wrong record at most.
-use Rattle.std.proofs.Common.{◌≡◌, ◌<◌, ◌≤◌, ◌+◌, ◌∷◌, ◌∙◌, ◌⊎◌, ℕ, zero, suc, ℤ, Bool, true, false, true≢false, List, [], Option, Some, None, map, take, length, inl, inr, refl, sym, ap, ap₂, subst, arith}
-use Rattle.std.specs.Prelude.{slice_get, not, ◌&&◌, ◌||◌, codes}
+use Rattle.std.proofs.Common.{◌≡◌, ◌<◌, ◌≤◌, ◌+◌, ◌∷◌, ◌∙◌, ◌⊎◌, ℕ, zero, suc, true, true≢false, List, [], map, take, length, inl, inr, refl, sym, ap, ap₂, subst, arith}
+use Rattle.std.specs.Prelude.{not, codes}
 use Rattle.std.specs.List.{list_any, Contains}
 use Rattle.std.proofs.lemmas.Bool.{and_parts, not-true, cases_lt}
-use Rattle.std.proofs.lemmas.List.{take_all, take-take}
+use Rattle.std.proofs.lemmas.List.{take-take}
 use Rattle.std.proofs.lemmas.Option.{same_Some}
 use Rattle.plcx_types.specs.Duration.{number}
-use Rattle.plcx_types.specs.Lists.{Each}
-use Rattle.plcx_types.specs.Literal.{StandsForValue}
 use Rattle.plcx_types.specs.Value.{Value}
-use Rattle.plcx_types.specs.Name.{in_lower_case}
 use Rattle.plcx_types.proofs.Literals.{value_reads}
 use Rattle.plcx_meaning.specs.Base.{Path, same_path}
 use Rattle.plcx_meaning.specs.Layout.{Leaf, Warm, Cold, all_apart, IsLayout}
@@ -17,7 +14,7 @@ use Rattle.plcx_meaning.specs.Run.{Input, Event, Scan, Again, last_after}
 use Rattle.plcx_meaning.proofs.Lists.{contains_cases, contains_none, contains_map, none_passes}
 use Rattle.plcx_state.specs.Retains.{Pairwise}
 use Rattle.plcx_state.proofs.Paths.{same_if}
-use Rattle.plcx_scan.specs.Files.{Record, records_of, StandsForEvents, IsColumn, IsHeader, IsTime, IsInput, AreInputs, IsScan, IsRestart, IsEvent, AreEvents, RecordsStandFor, IsWrong, IsFirstWrong, nothing, wrong}
+use Rattle.plcx_scan.specs.Files.{Record, records_of, StandsForEvents, IsColumn, IsHeader, IsInput, AreInputs, IsScan, IsEvent, AreEvents, RecordsStandFor, IsWrong, IsFirstWrong, nothing, wrong}
 
 -- a leaf is known by its path
 one_leaf : (leaves : List Leaf) → all_apart (map (λ (leaf : Leaf). leaf.path) leaves) ≡ true → (c d : Leaf) → Contains leaves c → Contains leaves d → c.path ≡ d.path → c ≡ d

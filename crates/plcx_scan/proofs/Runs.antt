@@ -1,5 +1,5 @@
 -- Runs over events: one event more.
-use Rattle.std.proofs.Common.{◌≡◌, ◌<◌, ◌+◌, ◌∙◌, ◌∷◌, ◌++◌, ◌≤◌, ℕ, ℤ, List, [], map, take, drop, length, get_or, refl, sym, ap, ap₂, subst, arith}
+use Rattle.std.proofs.Common.{◌≡◌, ◌<◌, ◌+◌, ◌∙◌, ◌∷◌, ◌++◌, ◌≤◌, ℕ, List, [], take, drop, length, get_or, refl, sym, ap, ap₂, subst}
 use Rattle.std.specs.Prelude.{filter, OnErr}
 use Rattle.std.specs.declared.result.Result.{Result}
 use Rattle.std.specs.declared.result.Result.TheVariants.{Ok, Err}
@@ -17,11 +17,12 @@ use Rattle.plcx_state.specs.Layouts.{all_meant}
 use Rattle.plcx_state.specs.Retains.{Pairwise, numbers, Agrees}
 use Rattle.plcx_scan.specs.declared.event.Event.{Event}
 use Rattle.plcx_scan.specs.declared.row.TraceRow.{TraceRow}
-use Rattle.plcx_scan.specs.Events.{meant_event, meant_events, CanBeNext, CanFollow, last_after}
+use Rattle.plcx_scan.specs.Events.{meant_event, meant_events, CanBeNext, CanFollow, last_after, last_at_end}
 use Rattle.plcx_scan.specs.Sides.{Tells, Brings, BringsAll, BringsSome, Shows, HasLine, HasLines, HasTypeOf, told}
 use Rattle.plcx_scan.specs.Rows.{shown_leaves, shown_numbers, picked, meant_line, meant_lines, IsRowOf}
 use Rattle.plcx_scan.specs.declared.side.Outcome.{Outcome}
-use Rattle.plcx_scan.proofs.Picked.{shown_of, picked_is, shown_typed, shown_agree}
+use Rattle.plcx_state.proofs.Eaches.{each_push}
+use Rattle.plcx_scan.proofs.Picked.{picked_is, shown_typed, shown_agree}
 
 -- the values that are picked after an event are those that the machine shows
 pub line_is : {G : Type 0} (m : Machine G) (turns : ℕ) (e : meant.Event) (Old New : meant.Side G → Type 0) (leaves : List Leaf) (values : List Value) (outcome : Outcome)
@@ -116,3 +117,19 @@ pushed_lines m turns es Old rows more same h g stands = ap meant_lines same ∙ 
 -- all events are some of them
 pub all_brought : {G : Type 0} (m : Machine G) (turns : ℕ) (es : List meant.Event) (Old New : meant.Side G → Type 0) → BringsAll m turns es Old New → BringsSome m turns es Old New
 all_brought m turns es Old New all = (length es, le_refl (length es), subst (λ (ds : List meant.Event). BringsAll m turns ds Old New) (sym (take-length es)) all)
+
+-- the time of the last scan after one event more
+pub last_push : (last : ℕ) (es : List Event) (e : Event) → last_at_end last (es ++ e ∷ []) ≡ last_after (last_at_end last es) e
+last_push last [] e = refl
+last_push last (d ∷ es) e = last_push (last_after last d) es e
+
+pub time_next : (first : ℕ) (events : List Event) (i : ℕ) (event : Event) → i < length events → event ≡ get_or events i event → (last next : ℕ)
+    → last ≡ last_at_end first (take i events) → next ≡ last_after last event → next ≡ last_at_end first (take (i + 1) events)
+time_next first events i event lt is last next before now =
+    now ∙ ap (λ n. last_after n event) before ∙ sym (last_push first (take i events) event)
+    ∙ ap (last_at_end first) (sym (take_more events i event lt ∙ ap (λ (e : Event). take i events ++ e ∷ []) (sym is)))
+
+-- one row more
+pub rows_next : (leaves there : List Leaf) → there ≡ leaves → (rows more : List TraceRow) (row : TraceRow) → more ≡ rows ++ row ∷ [] → Each (IsRowOf leaves) rows → IsRowOf there row → Each (IsRowOf leaves) more
+rows_next leaves there laid rows more row pushed before here =
+    subst (Each (IsRowOf leaves)) (sym pushed) (each_push (IsRowOf leaves) rows row before (subst (λ (ls : List Leaf). IsRowOf ls row) laid here))

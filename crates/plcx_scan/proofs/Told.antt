@@ -1,5 +1,5 @@
 -- The text of rows is that of the trace of the meaning.
-use Rattle.std.proofs.Common.{◌≡◌, ◌+◌, ◌∙◌, ◌∷◌, ◌++◌, ℕ, ℤ, Bool, true, false, List, [], map, reverse, refl, sym, ap, ap₂, subst, if◌then◌else◌}
+use Rattle.std.proofs.Common.{◌≡◌, ◌+◌, ◌∙◌, ◌∷◌, ◌++◌, ℕ, ℤ, Bool, true, false, List, [], map, refl, sym, ap, ap₂, subst, if◌then◌else◌}
 use Rattle.std.specs.Prelude.{filter, ◌&&◌}
 use Rattle.std.proofs.lemmas.List.{reverse-reverse}
 use Rattle.plcx_types.specs.Lists.{Each}
@@ -8,15 +8,15 @@ use Rattle.plcx_meaning.specs.Base.{Path, is_declared}
 use Rattle.plcx_meaning.specs.Layout.{Leaf as Meant}
 use Rattle.plcx_meaning.specs.Run as run
 use Rattle.plcx_meaning.specs.Run.{Machine}
-use Rattle.plcx_meaning.specs.Traces.{Line, trace_of, lines_from, side_at_end}
+use Rattle.plcx_meaning.specs.Traces.{trace_of, lines_from, side_at_end}
 use Rattle.plcx_state.specs.declared.layout.Leaf.{Leaf}
 use Rattle.plcx_state.specs.Layouts.{all_meant, meant, meant_path, dotted}
-use Rattle.plcx_state.specs.Lines.{retained_lines, line_if_kept, retained_line}
+use Rattle.plcx_state.specs.Lines.{retained_lines, retained_line}
 use Rattle.plcx_state.specs.Retains.{Pairwise, each_with, numbers, Agrees}
 use Rattle.plcx_scan.specs.declared.row.TraceRow.{TraceRow}
 use Rattle.plcx_scan.specs.Sides.{told, HasTypeOf, Shows, BringsAll, HasLines}
-use Rattle.plcx_scan.specs.Rows.{shown_leaves, meant_line, meant_lines, IsRowOf}
-use Rattle.plcx_scan.specs.Texts.{typed, spelled_path, event_text, kept_text, lines_text, all_kept_text, all_shown, all_retained, header, layout_header, rows_text, row_text, trace_bytes, trace_text, HasTrace}
+use Rattle.plcx_scan.specs.Rows.{shown_leaves, meant_lines, IsRowOf}
+use Rattle.plcx_scan.specs.Texts.{typed, spelled_path, event_text, kept_text, lines_text, all_kept_text, all_shown, all_retained, header, layout_header, rows_text, trace_bytes, trace_text, HasTrace}
 
 -- the shown leaves in the words of the meaning
 shown_meant : (leaves : List Leaf) → all_shown (all_meant leaves) ≡ all_meant (shown_leaves leaves)

@@ -61,6 +61,11 @@ last_after last (Scan time inputs) = nat_abs time
 last_after last Warm = last
 last_after last Cold = last
 
+-- the time of the last scan after events
+abbrev pub last_at_end : ℕ → List Event → ℕ
+last_at_end last [] = last
+last_at_end last (event ∷ events) = last_at_end (last_after last event) events
+
 -- events that may come one after another
 abbrev pub CanFollow : List Leaf → ℕ → List Event → Type 0
 CanFollow leaves last [] = Unit {0}

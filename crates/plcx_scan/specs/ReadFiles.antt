@@ -1,5 +1,5 @@
 -- Serves proofs: what the reader of event files answers.
-use Rattle.std.specs.Prelude.{◌≡◌, ◌<◌, ◌+◌, ⊤, ℕ, take, pos, Bool, true, false, not, ◌&&◌, nat_eq, nat_lt, nat_le, List, [], ◌∷◌, ◌++◌, Option, Some, None, map, drop, length, codes, slice_get, slice_set, slice_index_or, if◌then◌else◌}
+use Rattle.std.specs.Prelude.{◌≡◌, ◌<◌, ◌+◌, ⊤, ℕ, take, pos, Bool, true, false, ◌&&◌, nat_eq, nat_lt, nat_le, List, [], ◌∷◌, ◌++◌, Option, Some, None, map, drop, length, codes, slice_get, slice_set, slice_index_or, if◌then◌else◌}
 use Rattle.std.specs.List.{list_all}
 use Rattle.std.specs.Option.{option_map, option_and_then}
 use Rattle.std.specs.Str.{bytes_eq}
@@ -124,11 +124,6 @@ restart_event row = if is_word_alone row then (if has_word row 0 (codes "warm") 
 unfoldable pub row_event : List Column → ℕ → Record → Option Event
 row_event columns last row =
     if nat_eq (length row) (length columns + 2) then (if has_word row 0 (codes "scan") then scan_event columns last row else restart_event row) else None
-
--- the time of the last scan after events
-abbrev pub last_at_end : ℕ → List Event → ℕ
-last_at_end last [] = last
-last_at_end last (event ∷ events) = last_at_end (last_after last event) events
 
 -- records as events
 abbrev pub rows_events : List Column → ℕ → List Record → Option (List Event)

@@ -1,7 +1,6 @@
 -- The rows of a trace: which values they have, and what they are in the words of the meaning.
 use Rattle.std.specs.Prelude.{◌+◌, ℕ, List, [], ◌∷◌, map, filter, slice_get, if◌then◌else◌}
 use Rattle.std.specs.List.{filter_map}
-use Rattle.plcx_types.specs.Lists.{Each}
 use Rattle.plcx_types.specs.Value.{Value}
 use Rattle.plcx_meaning.specs.Traces.{Line, line}
 use Rattle.plcx_state.specs.declared.layout.Leaf.{Leaf}

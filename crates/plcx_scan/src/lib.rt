@@ -1,7 +1,8 @@
-//! Events, sides, and traces.
+//! Events, sides and traces.
 //!
-//! A `Side` is a program between two events: that of a diagram or that of a text. Its meaning is a side of the
-//! definitions, and each call brings it to what the definitions give. `run` goes over events and gives a trace.
+//! A `Side` is a program between two events: that of a diagram or that of a text. It stands for sides of the meaning,
+//! and each call brings it to what the meaning gives. `read_events` reads a file of events, `run` goes over events and
+//! gives a row for each, and `run_to_text` gives the whole trace, as `simulate` and `run` print it.
 #![tactic(auto)]
 
 mod column;

@@ -2,7 +2,7 @@
 ghost use Rattle.std.specs.Prelude.{◌≡◌, IfOk, OnOk, OnErr};
 ghost use Rattle.plcx_types.specs.Lists.{Each};
 ghost use Rattle.plcx_state.specs.Layouts.{all_meant};
-ghost use Rattle.plcx_scan.specs.Events.{meant_event, meant_events, CanBeNext, CanFollow, last_after};
+ghost use Rattle.plcx_scan.specs.Events.{meant_event, meant_events, CanBeNext, CanFollow, last_after, last_at_end};
 ghost use Rattle.plcx_scan.specs.Sides.{Tells, Brings, BringsAll, BringsSome, HasLine, HasLines};
 ghost use Rattle.plcx_scan.specs.Rows.{shown_numbers, meant_line, meant_lines, IsRowOf};
 
@@ -71,6 +71,7 @@ pub fn run<S: Side>(
     ensures stopped { OnErr result (BringsSome (S.machine side.old) turns (meant_events (S.laid side.old).leaves events.now) (S.stands_for side.old) (S.stands_for side.new)) }
     ensures machine { S.machine side.new ≡ S.machine side.old }
     ensures laid { S.laid side.new ≡ S.laid side.old }
+    ensures time { OnOk result (S.last side.new ≡ last_at_end (S.last side.old) events.now) }
 {
     let shown = Shown::of(alloc, side.layout())?;
     let mut rows = Vec::new(alloc);

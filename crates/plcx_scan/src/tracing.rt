@@ -5,7 +5,7 @@ ghost use Rattle.std.specs.List.{flat_map};
 ghost use Rattle.plcx_types.specs.Printed.{printed};
 ghost use Rattle.plcx_state.specs.declared.layout.Leaf.{Leaf};
 ghost use Rattle.plcx_state.specs.Layouts.{dotted};
-ghost use Rattle.plcx_scan.specs.Events.{meant_events, CanFollow};
+ghost use Rattle.plcx_scan.specs.Events.{meant_events, CanFollow, last_at_end};
 ghost use Rattle.plcx_scan.specs.Sides.{told, BringsAll, BringsSome};
 ghost use Rattle.plcx_scan.specs.Rows.{shown_leaves};
 ghost use Rattle.plcx_scan.specs.Texts.{word, behind_comma, values_text, row_text, rows_text, layout_header, trace_text, HasTrace};
@@ -127,6 +127,7 @@ pub fn run_to_text<S: Side>(
     ensures stopped { OnErr result (BringsSome (S.machine side.old) turns (meant_events (S.laid side.old).leaves events.now) (S.stands_for side.old) (S.stands_for side.new)) }
     ensures machine { S.machine side.new ≡ S.machine side.old }
     ensures laid { S.laid side.new ≡ S.laid side.old }
+    ensures time { OnOk result (S.last side.new ≡ last_at_end (S.last side.old) events.now) }
 {
     let trace = run(alloc, side, events, turns)?;
     let _ = side.values();

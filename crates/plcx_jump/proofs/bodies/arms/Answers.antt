@@ -15,7 +15,7 @@ arm-requires-clause-range c =
     let networks = shown_networks d in
     let next = c.loop-number.number + 1 in
     let here = subst (λ (ns : List (List ℕ)). ArmsInRange (arms (arms_text networks c.loop-number.number (map (shown_network d) ns))))
-        (left d.networks.now c.loop-number.number c.network-item.result c.loop-number-test.true c.network-item.is) c.loop-number.invariant.range in
+    (left d.networks.now c.loop-number.number c.network-item.result c.loop-number-test.true c.network-item.is) c.loop-number.invariant.range in
     let own = stated (turn_text networks next (shown_network d c.network-item.result)) here.0 in
     subst (λ (ns : List (List DiagramElement)). Each StatementInRange (turn_text ns next (shown_network d c.as_slice.result.now))) (sym c.requires.own)
     (subst (λ (places : List ℕ). Each StatementInRange (turn_text networks next (shown_network d places))) (sym c.as_slice.ensures) own)

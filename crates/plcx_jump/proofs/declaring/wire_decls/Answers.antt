@@ -13,6 +13,6 @@ put_wires-requires c =
 pub loop-element-preserved : goal.loop-element-preserved
 loop-element-preserved c = record {
   made = made_here element_wires shown_element c.args.elements.now c.loop-element.element-index c.element-item.result c.loop-element-test.true c.element-item.is
-    (map decl_meant c.loop-element.decls.items) (map decl_meant c.put_wires.new.decls.items) _ c.in_ok-put_wires.ensures c.loop-element.invariant.made;
+      (map decl_meant c.loop-element.decls.items) (map decl_meant c.put_wires.new.decls.items) _ c.in_ok-put_wires.ensures c.loop-element.invariant.made;
   range = (each_here element_wires shown_element c.args.elements.now c.loop-element.element-index c.element-item.result c.loop-element-test.true c.element-item.is DeclarationInRange c.loop-element.invariant.range).1;
 }

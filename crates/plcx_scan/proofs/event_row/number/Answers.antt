@@ -1,4 +1,4 @@
-use Rattle.std.proofs.Common.{arith, rules}
+use Rattle.std.proofs.Common.{arith}
 use Rattle.plcx_scan.proofs.Digits.{next_step}
 use Rattle.plcx_scan.proofs.event_row.number.Goals as goal
 

@@ -1,11 +1,8 @@
-use Rattle.std.proofs.Common.{◌≡◌, ◌∷◌, ◌∙◌, List, Option, Some, None, ap, sym, subst, rules}
+use Rattle.std.proofs.Common.{◌≡◌, List, sym, subst, rules}
 use Rattle.std.specs.declared.result.Result.TheVariants.{Err}
 use Rattle.std.proofs.lemmas.List.{nil_from_length}
 use Rattle.plcx_state.specs.Layouts.{all_meant}
-use Rattle.plcx_scan.specs.Errors.{WhyNotRecords}
-use Rattle.plcx_scan.specs.Events.{meant_events}
-use Rattle.plcx_scan.specs.Files.{Record, RecordsStandFor, IsFirstWrong, nothing}
-use Rattle.plcx_scan.specs.ReadFiles.{rows_events}
+use Rattle.plcx_scan.specs.Files.{Record, IsFirstWrong, nothing}
 use Rattle.plcx_scan.proofs.EventFiles.{records_sound, header_wrong, rows_wrong}
 use Rattle.plcx_scan.proofs.reading.read_records.Goals as goal
 

@@ -1,8 +1,7 @@
 use Rattle.std.proofs.Common.{◌∙◌, ap, refl, sym}
-use Rattle.plcx_scan.specs.Events.{last_after}
-use Rattle.plcx_scan.specs.ReadFiles.{last_at_end}
+use Rattle.plcx_scan.specs.Events.{last_at_end, last_after}
 use Rattle.plcx_scan.proofs.EventFiles.{read_more, read_none}
-use Rattle.plcx_scan.proofs.EventRows.{last_push}
+use Rattle.plcx_scan.proofs.Runs.{last_push}
 use Rattle.plcx_scan.proofs.reading.read_rows.Goals as goal
 
 pub returns-in_default-clause-err : goal.returns-in_default-clause-err

@@ -1,5 +1,6 @@
 use Rattle.std.proofs.Common.{◌≡◌, Some, take}
-use Rattle.plcx_scan.specs.ReadFiles.{rows_events, last_at_end}
+use Rattle.plcx_scan.specs.Events.{last_at_end}
+use Rattle.plcx_scan.specs.ReadFiles.{rows_events}
 use Rattle.plcx_scan.proofs.reading.read_rows.Given as goal
 
 abbrev pub invariant-loop-place : goal.invariant-loop-place

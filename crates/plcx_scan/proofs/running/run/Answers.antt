@@ -1,11 +1,8 @@
-use Rattle.std.proofs.Common.{◌∙◌, ◌+◌, List, ap, sym, subst, arith}
-use Rattle.plcx_types.specs.Lists.{Each}
+use Rattle.std.proofs.Common.{◌++◌, ◌∷◌, [], take, ◌∙◌, ◌+◌, ap, sym, arith}
 use Rattle.plcx_state.specs.Layouts.{Laid}
-use Rattle.plcx_state.specs.declared.layout.Leaf.{Leaf}
-use Rattle.plcx_state.proofs.Eaches.{each_push}
-use Rattle.plcx_scan.specs.Rows.{shown_numbers, IsRowOf}
-use Rattle.plcx_scan.specs.declared.row.TraceRow.{TraceRow}
-use Rattle.plcx_scan.proofs.Runs.{brings_next, has_next, some_brought, on_err, follow_next, pushed_lines}
+use Rattle.plcx_scan.specs.Events.{meant_events}
+use Rattle.plcx_scan.specs.Rows.{shown_numbers}
+use Rattle.plcx_scan.proofs.Runs.{time_next, rows_next, brings_next, has_next, some_brought, on_err, follow_next, pushed_lines}
 use Rattle.plcx_scan.proofs.running.run.Goals as goal
 
 pub row_after-requires-clause-event : goal.row_after-requires-clause-event
@@ -50,9 +47,9 @@ loop-event-preserved g c =
       follow = rw (after.laid, after.time) (follow_next _ _ c.args.events.now c.loop-event.event-index event c.loop-event-test.true c.event-item.is inv.follow).1;
       meaning = brings_next m _ inv.machine c.args.turns _ _ leaves c.args.events.now c.loop-event.event-index event c.loop-event-test.true c.event-item.is
           (stands c.args.side.now) (stands c.loop-event.side) (stands c.row_after.new.side) inv.meaning after.meaning;
-      lines = pushed_lines m c.args.turns _ (stands c.args.side.now) _ _ c.in_ok-push.ensures.items
+      lines = pushed_lines m c.args.turns (meant_events (g.S.Side.laid c.args.side.now).leaves (take (c.loop-event.event-index + 1) c.args.events.now)) (stands c.args.side.now) c.push.new.self.items (c.loop-event.rows.items ++ c.in_ok-row.row ∷ []) c.in_ok-push.ensures.items
           (has_next m _ inv.machine c.args.turns _ _ leaves c.args.events.now c.loop-event.event-index event c.loop-event-test.true c.event-item.is
           (stands c.args.side.now) (stands c.loop-event.side) c.loop-event.rows.items c.in_ok-row.row inv.meaning inv.lines made.line);
-      rows = subst (Each (IsRowOf (g.S.Side.laid c.args.side.now).leaves)) (sym c.in_ok-push.ensures.items)
-          (each_push (IsRowOf (g.S.Side.laid c.args.side.now).leaves) c.loop-event.rows.items c.in_ok-row.row inv.rows (subst (λ (ls : List Leaf). IsRowOf ls c.in_ok-row.row) leaves made.row));
+      time = time_next _ c.args.events.now c.loop-event.event-index event c.loop-event-test.true c.event-item.is _ _ inv.time after.time;
+      rows = rows_next (g.S.Side.laid c.args.side.now).leaves (g.S.Side.laid c.loop-event.side).leaves leaves c.loop-event.rows.items c.push.new.self.items c.in_ok-row.row c.in_ok-push.ensures.items inv.rows made.row;
     }

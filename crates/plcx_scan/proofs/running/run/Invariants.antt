@@ -1,6 +1,6 @@
 use Rattle.std.proofs.Common.{◌≡◌, take, drop}
 use Rattle.plcx_types.specs.Lists.{Each}
-use Rattle.plcx_scan.specs.Events.{meant_events, CanFollow}
+use Rattle.plcx_scan.specs.Events.{meant_events, CanFollow, last_at_end}
 use Rattle.plcx_scan.specs.Sides.{BringsAll, HasLines}
 use Rattle.plcx_scan.specs.Rows.{shown_numbers, meant_lines, IsRowOf}
 use Rattle.plcx_scan.proofs.running.run.Given as goal
@@ -14,5 +14,6 @@ invariant-loop-event g l = record {
   follow : CanFollow (g.S.Side.laid l.side).leaves (g.S.Side.last l.side) (drop l.event-index l.events);
   meaning : BringsAll (g.S.Side.machine l.fn.side) l.turns (meant_events (g.S.Side.laid l.fn.side).leaves (take l.event-index l.events)) (g.S.Side.stands_for l.fn.side) (g.S.Side.stands_for l.side);
   lines : HasLines (g.S.Side.machine l.fn.side) l.turns (meant_events (g.S.Side.laid l.fn.side).leaves (take l.event-index l.events)) (g.S.Side.stands_for l.fn.side) (meant_lines l.rows.items);
+  time : g.S.Side.last l.side ≡ last_at_end (g.S.Side.last l.fn.side) (take l.event-index l.events);
   rows : Each (IsRowOf (g.S.Side.laid l.fn.side).leaves) l.rows.items;
 }

@@ -1,0 +1,4 @@
+mod Laid
+pub mod Standing
+mod Stands
+pub mod Remembered
