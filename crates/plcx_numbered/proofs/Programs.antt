@@ -1,6 +1,6 @@
 -- What is prepared of a project that fits is right.
 use Rattle.std.proofs.Common.{◌≡◌, ℕ, zero, suc, ◌+◌, ◌<◌, pos, Bool, true, false, List, [], ◌∷◌, ◌++◌, length, length-append, map, replicate, Option, Some, refl, sym, ap, ap₂, ◌∙◌, subst, arith, inl, inr}
-use Rattle.std.specs.Prelude.{slice_get, not, nat_eq, ◌||◌, if◌then◌else◌}
+use Rattle.std.specs.Prelude.{None, ◌≢◌, slice_get, not, nat_eq, ◌||◌, if◌then◌else◌}
 use Rattle.std.specs.List.{flat_map, list_all, list_any, Contains, AllZip}
 use Rattle.std.specs.Str.{bytes_eq}
 use Rattle.std.proofs.lemmas.Bool.{and_parts, not-true, true≢false}
@@ -14,8 +14,11 @@ use Rattle.plcx_types.specs.Value.{Value}
 use Rattle.plcx_funcs.specs.Applied.{value}
 use Rattle.plcx_meaning.specs.Base.{are_distinct}
 use Rattle.plcx_meaning.specs.Diagram.{ElementKind, Still, In, Out, Contact, Coil, Pass, Label, Jump, Return, Function, Call, Port, ports, DiagramElement, Pou, Project}
+use Rattle.plcx_meaning.specs.Tree as tree
+use Rattle.plcx_meaning.specs.Tree.{Class, Local, Input, Output, InOut, Temp, Mark, Declaration, Block}
+use Rattle.plcx_meaning.specs.Layout.{variable, variables_of}
 use Rattle.plcx_meaning.specs.Evaluate.{leads_to, place_named}
-use Rattle.plcx_meaning.specs.Fits.{ElementsFit, fixed_by, PortsFit, PouFits, PouNests, ProjectFits}
+use Rattle.plcx_meaning.specs.Fits.{ElementsFit, fixed_by, PortsFit, InOutsFit, PouFits, PouNests, ProjectFits}
 use Rattle.plcx_meaning.proofs.Lists.{each_at, each_from, each_append, each_map, contains_cases, contains_none, contains_first, contains_later, contains_map, none_passes, distinct_parts}
 use Rattle.plcx_meaning.proofs.Names.{bytes_self, same_bytes}
 use Rattle.plcx_steps.specs.declared.program.Network.{Network}
@@ -24,7 +27,7 @@ use Rattle.plcx_steps.specs.declared.program.Program.{Program}
 use Rattle.plcx_steps.specs.Numbered.{bit, number_at}
 use Rattle.plcx_numbered.specs.Agreeing.{AreApart, Pin}
 use Rattle.plcx_numbered.specs.Right.{Plan, RightElement, IsWire, lead, leaps, IsLeap, IsNetwork, IsBody, IsPrepared}
-use Rattle.plcx_numbered.specs.Numbers.{pins_of, spare_wires, numbering, plan_of, plans_of, place_of}
+use Rattle.plcx_numbered.specs.Numbers.{in_out_names, pins_of, spare_wires, numbering, plan_of, plans_of, place_of}
 use Rattle.plcx_numbered.specs.Programs.{network_wires, jump_of, IsNetworkOf, IsBodyOf, IsProgramOf}
 use Rattle.plcx_numbered.proofs.Numbers.{there_at, apart_none, apart_cons, apart_append, contains_append}
 use Rattle.plcx_numbered.proofs.Nested.{level_low}
@@ -229,3 +232,26 @@ plans_low project fits = each_map (λ (plan : Plan). plan.level < 17) (plan_of p
     let one : PouFits project p = each_at (PouFits project) project p fits.pous there in
     let low = level_low project (distinct_of project fits) 16 p one.distinct (each_at (PouNests 16 project) project p fits.nests there) 17 in
     omega arith))
+
+-- a program has no in-outs
+no_in_outs : (bs : List Block) → Each (InOutsFit tree.Program) bs → in_out_names (variables_of bs) ≡ []
+no_in_outs [] h = refl
+no_in_outs (b ∷ bs) h = declared b.class b.mark b.declarations (λ e. (h.0 e).1) (no_in_outs bs h.1)
+  where
+    passes : (class : Class) (mark : Mark) (d : Declaration) (ds : List Declaration) → (class ≡ InOut → ⊥) → in_out_names (map (variable class mark) ds ++ variables_of bs) ≡ []
+        → in_out_names (map (variable class mark) (d ∷ ds) ++ variables_of bs) ≡ []
+    passes Local mark d ds other rest = rest
+    passes Input mark d ds other rest = rest
+    passes Output mark d ds other rest = rest
+    passes InOut mark d ds other rest = absurd (other refl)
+    passes Temp mark d ds other rest = rest
+
+    declared : (class : Class) (mark : Mark) (ds : List Declaration) → (class ≡ InOut → Each (λ (d : Declaration). (tree.Program ≢ tree.Program) × (d.address ≡ None) × (d.initial ≡ None)) ds)
+        → in_out_names (variables_of bs) ≡ [] → in_out_names (map (variable class mark) ds ++ variables_of bs) ≡ []
+    declared class mark [] own rest = rest
+    declared class mark (d ∷ ds) own rest = passes class mark d ds (λ e. (own e).0.0 refl) (declared class mark ds (λ e. (own e).1) rest)
+
+pub programs_free : (project : Project) → ProjectFits project → Each (λ (plan : Plan). plan.pou.kind ≡ tree.Program → plan.in_outs ≡ []) (plans_of project)
+programs_free project fits = each_map (λ (plan : Plan). plan.pou.kind ≡ tree.Program → plan.in_outs ≡ []) (plan_of project) project (each_from _ project (λ p there kind.
+    let one : PouFits project p = each_at (PouFits project) project p fits.pous there in
+    no_in_outs p.lists (subst (λ k. Each (InOutsFit k) p.lists) kind one.in_outs)))

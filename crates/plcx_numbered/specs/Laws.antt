@@ -1,6 +1,7 @@
 -- What the laws say, each of its subject.
 use Rattle.std.specs.Prelude.{◌≡◌, ◌<◌, ℕ, pos, [], List, Some, slice_get}
 use Rattle.plcx_types.specs.Lists.{Each}
+use Rattle.plcx_meaning.specs.Tree as tree
 use Rattle.plcx_meaning.specs.Diagram.{Project}
 use Rattle.plcx_meaning.specs.Evaluate.{Heard, DiagramState, program_does}
 use Rattle.plcx_meaning.specs.Fits.{ProjectFits}
@@ -21,8 +22,10 @@ ScansAlike {M} tell =
     → (d : DiagramState) (n : Numbered M) → Agree plan.shape tell begun d n
     → Alike plan.shape tell begun Nothing (program_does time project plan.pou d) (bodies_do levels tell program (pos time) k origin [] n)
 
--- A program that is prepared of a project that fits has the right numbers, and no POU calls more than 16 levels of blocks.
+-- A program that is prepared of a project that fits has the right numbers, no POU calls more than 16 levels of blocks, and a program has no in-outs.
 abbrev pub PreparedRight : Type 0
 PreparedRight =
     (project : Project) (program : Program) → ProjectFits project → IsProgramOf project program
-    → IsPrepared project (plans_of project) program × Each (λ (plan : Plan). plan.level < levels) (plans_of project)
+    → IsPrepared project (plans_of project) program
+    × Each (λ (plan : Plan). plan.level < levels) (plans_of project)
+    × Each (λ (plan : Plan). plan.pou.kind ≡ tree.Program → plan.in_outs ≡ []) (plans_of project)
