@@ -16,3 +16,4 @@ pub mod Sources
 pub mod Callees
 pub mod Rights
 pub mod Programs
+pub mod Apart
