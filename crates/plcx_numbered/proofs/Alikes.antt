@@ -1,5 +1,5 @@
 -- Pieces of a scan that are alike, one after another.
-use Rattle.std.proofs.Common.{◌≡◌, ℕ, zero, suc, List, [], ◌∷◌, ◌++◌, refl, sym, ap, ◌∙◌, subst}
+use Rattle.std.proofs.Common.{◌≡◌, ℕ, zero, suc, List, [], ◌∷◌, ◌++◌, refl, sym, subst}
 use Rattle.plcx_meaning.specs.Base.{Stop, OutOfTurns, Outcome, Ended, Stopped, Stuck, then_do, spend}
 use Rattle.plcx_meaning.specs.Evaluate.{Heard, DiagramState}
 use Rattle.plcx_steps.specs.declared.program.Step.{Step}

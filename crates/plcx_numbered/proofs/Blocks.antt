@@ -1,5 +1,5 @@
 -- Standard blocks: a call over the numbers of leaves is one over their paths.
-use Rattle.std.proofs.Common.{◌≡◌, ℕ, zero, suc, ◌+◌, ◌-◌, ◌<◌, ◌≤◌, ℤ, pos, Bool, true, false, List, [], ◌∷◌, length, set, get_or, map, drop, Some, refl, sym, ap, ap₂, ◌∙◌, subst, arith}
+use Rattle.std.proofs.Common.{◌≡◌, ℕ, zero, suc, ◌+◌, ◌-◌, ◌<◌, ◌≤◌, pos, true, List, [], ◌∷◌, length, set, map, drop, Some, refl, sym, ap, ◌∙◌, subst, arith}
 use Rattle.std.specs.Prelude.{slice_get, slice_range, if◌then◌else◌}
 use Rattle.std.specs.Str.{bytes_eq}
 use Rattle.std.proofs.lemmas.List.{get_or-take, get_or-drop, length-take, length-drop}
@@ -11,12 +11,12 @@ use Rattle.plcx_std.specs.declared.kind.StdKind.{StdKind}
 use Rattle.plcx_std.specs.declared.kind.StdKind.TheVariants as kind
 use Rattle.plcx_std.specs.declared.state.StdState.{StdState}
 use Rattle.plcx_std.specs.Pins.{Pin, pins}
-use Rattle.plcx_std.specs.State.{values, stepped, kind_of}
+use Rattle.plcx_std.specs.State.{values, stepped}
 use Rattle.plcx_meaning.specs.Base.{Path, are_distinct}
 use Rattle.plcx_meaning.specs.Standard.{Leaves, state_of, put_values, called as called_at}
 use Rattle.plcx_meaning.specs.Evaluate.{Heard, DiagramState, set_leaf}
 use Rattle.plcx_meaning.proofs.Lists.{distinct_parts, none_passes, contains_map}
-use Rattle.plcx_meaning.proofs.Names.{bytes_self, bytes_swapped}
+use Rattle.plcx_meaning.proofs.Names.{bytes_self}
 use Rattle.plcx_steps.specs.Numbered.{Numbered, no_value, number_at, pin_value, called, set_from, standard_at}
 use Rattle.plcx_steps.proofs.Standards.{kind_state, kind_stepped, values_length}
 use Rattle.plcx_numbered.specs.Agreeing.{Shape, IsApart, Agree}

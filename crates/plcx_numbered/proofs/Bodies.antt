@@ -1,30 +1,28 @@
 -- Networks, bodies and nested blocks: over numbers as over paths.
-use Rattle.std.proofs.Common.{◌≡◌, ℕ, zero, suc, ◌+◌, ◌<◌, ◌≤◌, ℤ, pos, Bool, true, false, List, [], ◌∷◌, length, Option, Some, None, refl, sym, ap, ap₂, ◌∙◌, subst, arith, ◌⊎◌, inl, inr}
+use Rattle.std.proofs.Common.{◌≡◌, ℕ, zero, suc, ◌+◌, ◌<◌, pos, Bool, true, false, List, [], ◌∷◌, length, Option, Some, None, refl, sym, ap, ap₂, ◌∙◌, arith, ◌⊎◌, inl, inr}
 use Rattle.std.specs.Prelude.{slice_get, if◌then◌else◌}
 use Rattle.std.specs.List.{AllZip}
 use Rattle.plcx_types.specs.Name.{in_lower_case}
-use Rattle.plcx_types.specs.Lists.{Each}
 use Rattle.plcx_types.specs.Value.{Value}
-use Rattle.plcx_std.specs.declared.kind.StdKind.{StdKind}
 use Rattle.plcx_std.specs.Kind.{kind_named}
 use Rattle.plcx_meaning.specs.Base.{Path, is_true, OutOfTurns, Outcome, Ended, Stopped, then_do, spend, found, Site, top}
 use Rattle.plcx_meaning.specs.Layout.{Variable, variables_of}
 use Rattle.plcx_meaning.specs.Standard.{called as called_at}
 use Rattle.plcx_meaning.specs.Diagram as diagram
 use Rattle.plcx_meaning.specs.Diagram.{DiagramElement, Project, has_jump, block_named, InOutPin}
-use Rattle.plcx_meaning.specs.Evaluate.{Heard, DiagramState, Wires, no_wires, DiagramCalls, DiagramSetting, elements_do, straight, leads_to, chosen, successor, at_network, jumping, body_does, with_standard, place_named, pou_does, blocks_do, program_does}
+use Rattle.plcx_meaning.specs.Evaluate.{Heard, DiagramState, Wires, no_wires, DiagramCalls, DiagramSetting, elements_do, straight, leads_to, chosen, successor, at_network, jumping, body_does, with_standard, pou_does, blocks_do, program_does}
 use Rattle.plcx_steps.specs.declared.program.Jump.{Jump as Leap}
 use Rattle.plcx_steps.specs.declared.program.Network.{Network}
 use Rattle.plcx_steps.specs.declared.program.Body.{Body}
 use Rattle.plcx_steps.specs.declared.program.Program.{Program}
 use Rattle.plcx_steps.specs.declared.program.Instance.{Instance}
-use Rattle.plcx_steps.specs.Numbered.{Numbered, Frame, frame, number_at, within, Entered, Here, here_at, steps_do, follow, network_does, straight as straight_at, at_network as at_place, jumping as jumping_at, body_does as body_at, bodies_do}
+use Rattle.plcx_steps.specs.Numbered.{Numbered, frame, number_at, within, Entered, Here, here_at, steps_do, follow, network_does, straight as straight_at, at_network as at_place, jumping as jumping_at, body_does as body_at, bodies_do}
 use Rattle.plcx_numbered.specs.Agreeing.{Shape, IsApart, Lies, Agree, SameWires, SameInOuts, Alike, Nothing}
-use Rattle.plcx_numbered.specs.Right.{Plan, Place, variables, IsUser, lead, leaps, IsLeap, place, IsNetwork, IsBody, IsPrepared}
-use Rattle.plcx_numbered.proofs.Holding.{no_wires_same, agree_left, lies_within, lies_whole}
+use Rattle.plcx_numbered.specs.Right.{Plan, Place, lead, leaps, IsLeap, place, IsNetwork, IsBody, IsPrepared}
+use Rattle.plcx_numbered.proofs.Holding.{no_wires_same, agree_left, lies_within}
 use Rattle.plcx_numbered.proofs.Alikes.{both_end, both_stop, alike_then, alike_as, alike_from, alike_spend, then_then}
 use Rattle.plcx_numbered.proofs.Simple.{InFrame}
-use Rattle.plcx_numbered.proofs.Calling.{inner_site, StepsStandard, CallsAlike}
+use Rattle.plcx_numbered.proofs.Calling.{inner_site, StepsStandard}
 use Rattle.plcx_numbered.proofs.Elements.{elements_alike}
 
 -- the first jump that is TRUE

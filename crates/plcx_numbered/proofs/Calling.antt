@@ -1,5 +1,5 @@
 -- Calls of instances: inputs, the call itself, and outputs.
-use Rattle.std.proofs.Common.{◌≡◌, ℕ, zero, suc, ◌+◌, ◌<◌, ◌≤◌, ℤ, pos, Bool, true, false, List, [], ◌∷◌, ◌++◌, length, set, map, Option, Some, None, refl, sym, ap, ap₂, ◌∙◌, subst, arith}
+use Rattle.std.proofs.Common.{◌≡◌, ℕ, zero, suc, ◌+◌, ◌≤◌, ℤ, pos, Bool, true, false, List, [], ◌∷◌, ◌++◌, length, set, map, Option, Some, None, refl, sym, ap, ◌∙◌, subst, arith}
 use Rattle.std.specs.Prelude.{slice_get, slice_range, slice_index_or, codes, if◌then◌else◌}
 use Rattle.std.proofs.lemmas.List.{length-set, length-map}
 use Rattle.std.proofs.lemmas.Option.{same_Some}
@@ -13,21 +13,20 @@ use Rattle.plcx_meaning.specs.Layout.{Variable, variable_named}
 use Rattle.plcx_meaning.specs.Standard.{called as called_at}
 use Rattle.plcx_meaning.specs.Diagram.{Link, Enable, eno_negated, InputPin, InOutPin, OutputPin}
 use Rattle.plcx_meaning.specs.Evaluate.{Heard, DiagramState, Wires, fix, set_leaf, leaf_named, link_value, enable_value, fix_eno, turn, store_inputs, bind, take_outputs, DiagramCalls, DiagramSetting, call_does}
-use Rattle.plcx_steps.specs.declared.program.Operand.{Operand}
 use Rattle.plcx_steps.specs.declared.program.Operand.TheVariants.{Leaf}
-use Rattle.plcx_steps.specs.declared.program.Source.TheVariants.{Wire, Variable as Read}
+use Rattle.plcx_steps.specs.declared.program.Source.TheVariants.{Variable as Read}
 use Rattle.plcx_steps.specs.declared.program.Action.TheVariants.{Fix, Write, Not}
 use Rattle.plcx_steps.specs.declared.program.Step.{Step}
-use Rattle.plcx_steps.specs.declared.program.Step.TheVariants.{Act, Skip}
+use Rattle.plcx_steps.specs.declared.program.Step.TheVariants.{Act}
 use Rattle.plcx_steps.specs.declared.program.Instance.{Instance}
-use Rattle.plcx_steps.specs.Numbered.{Numbered, Here, Entered, Frame, frame, bit, value_at, number_at, cells_of, source_at, read, leaf_at, within, bound_at, standard_at, step_in, steps_do}
+use Rattle.plcx_steps.specs.Numbered.{Numbered, Here, Entered, Frame, frame, bit, value_at, number_at, cells_of, source_at, read, leaf_at, within, bound_at, standard_at, steps_do}
 use Rattle.plcx_numbered.specs.Agreeing.{AreApart, Shape, IsApart, Lies, Agree, SameInOuts, SameWires, Alike, Nothing}
-use Rattle.plcx_numbered.specs.Prepared.{Callee, Block, User, Numbering, not_steps, link_steps, link_source, enable_steps, enabled, eno_steps, input_steps, bound_variable, call_steps, bindings, output_steps, under, called_steps}
-use Rattle.plcx_numbered.specs.Right.{Plan, Place, variables, IsWire, IsInner, IsOperand, RightLink, RightEnable, IsBlock, IsBound, IsUser, instance_at, RightCallee, RightCall, HasAt}
+use Rattle.plcx_numbered.specs.Prepared.{Callee, Block, User, not_steps, link_steps, link_source, enable_steps, enabled, eno_steps, input_steps, bound_variable, call_steps, bindings, output_steps, under, called_steps}
+use Rattle.plcx_numbered.specs.Right.{Place, variables, IsWire, IsInner, RightLink, IsBound, IsUser, instance_at, RightCallee, RightCall, HasAt}
 use Rattle.plcx_numbered.proofs.Holding.{agree_set}
 use Rattle.plcx_numbered.proofs.Alikes.{both_end, alike_then, alike_as, alike_from, then_then, steps_append}
 use Rattle.plcx_numbered.proofs.Links.{SameMemories, brought}
-use Rattle.plcx_numbered.proofs.Simple.{InFrame, operand_at, wired, below}
+use Rattle.plcx_numbered.proofs.Simple.{InFrame, operand_at, wired}
 use Rattle.plcx_numbered.proofs.Functions.{negated_has_eno, enabling, Wired, wired_then, spare_other, turned, eno}
 use Rattle.plcx_numbered.proofs.Blocks.{standard_agree}
 

@@ -1,6 +1,6 @@
 -- The elements of a network: their steps do over numbers what they do over paths.
-use Rattle.std.proofs.Common.{◌≡◌, ℕ, zero, suc, ◌+◌, ◌<◌, ◌≤◌, ℤ, pos, Bool, true, false, List, [], ◌∷◌, ◌++◌, ◌-◌, length, length-append, set, map, take, drop, Some, refl, sym, ap, ap₂, ◌∙◌, subst, arith}
-use Rattle.std.specs.Prelude.{slice_get, slice_range, codes, if◌then◌else◌}
+use Rattle.std.proofs.Common.{◌≡◌, ℕ, zero, suc, ◌+◌, ◌<◌, ◌≤◌, pos, true, false, List, [], ◌∷◌, ◌++◌, ◌-◌, length, length-append, set, take, drop, refl, sym, ap, ap₂, ◌∙◌, subst, arith}
+use Rattle.std.specs.Prelude.{slice_get}
 use Rattle.std.specs.List.{fold}
 use Rattle.std.proofs.lemmas.List.{length-set, drop-drop}
 use Rattle.std.proofs.lemmas.Option.{same_Some}
@@ -8,20 +8,17 @@ use Rattle.plcx_types.specs.Name.{in_lower_case}
 use Rattle.plcx_types.specs.Lists.{Each}
 use Rattle.plcx_types.specs.Value.{Value}
 use Rattle.plcx_funcs.specs.Applied.{value}
-use Rattle.plcx_meaning.specs.Base.{AtEdge, AtOutput, not_of, not_if, Outcome, Ended, Stopped, Stuck, then_do, Site}
+use Rattle.plcx_meaning.specs.Base.{AtEdge, AtOutput, not_of, Outcome, Ended, Stopped, Stuck, then_do, Site}
 use Rattle.plcx_meaning.specs.Diagram.{Link, ElementKind, Still, In, Out, Contact, Coil, Pass, Label, Jump, Return, Function, Call, Port, ports, DiagramElement}
-use Rattle.plcx_meaning.specs.Diagram as diagram
-use Rattle.plcx_meaning.specs.Evaluate.{Heard, DiagramState, Wires, fix, operand_leaf, link_value, DiagramCalls, DiagramSetting, kind_does, feed, outputs_heard, hear, element_does, elements_do}
-use Rattle.plcx_steps.specs.declared.program.Source.TheVariants.{Wire}
-use Rattle.plcx_steps.specs.declared.program.Action.TheVariants.{Fix, Keep, Not}
-use Rattle.plcx_steps.specs.declared.program.Step.{Step}
-use Rattle.plcx_steps.specs.declared.program.Step.TheVariants.{Act, Tell}
+use Rattle.plcx_meaning.specs.Evaluate.{Heard, DiagramState, Wires, fix, link_value, DiagramCalls, DiagramSetting, kind_does, feed, outputs_heard, hear, element_does, elements_do}
+use Rattle.plcx_steps.specs.declared.program.Action.TheVariants.{Fix}
+use Rattle.plcx_steps.specs.declared.program.Step.TheVariants.{Act}
 use Rattle.plcx_steps.specs.Numbered.{Numbered, Here, Entered, Frame, frame, bit, number_at, value_at, cells_of, source_at, read, heard, steps_do}
 use Rattle.plcx_numbered.specs.Agreeing.{AreApart, Shape, IsApart, Lies, Agree, SameInOuts, SameWires, Alike}
-use Rattle.plcx_numbered.specs.Prepared.{Numbering, operand_of, link_steps, link_source, coil_steps, contact_steps, kind_steps, kind_arguments, kind_bindings, spares, feed_steps, tell_steps, element_steps, elements_steps, elements_arguments, elements_bindings}
-use Rattle.plcx_numbered.specs.Right.{Plan, Place, variables, IsWire, IsCell, RightLink, RightKind, RightElement, HasAt}
+use Rattle.plcx_numbered.specs.Prepared.{operand_of, link_steps, link_source, coil_steps, contact_steps, kind_steps, kind_arguments, kind_bindings, spares, feed_steps, tell_steps, element_steps, elements_steps, elements_arguments, elements_bindings}
+use Rattle.plcx_numbered.specs.Right.{Place, variables, IsWire, IsCell, RightLink, RightKind, RightElement, HasAt}
 use Rattle.plcx_numbered.proofs.Holding.{agree_keep, agree_hear}
-use Rattle.plcx_numbered.proofs.Alikes.{both_end, alike_then, alike_as, alike_from, steps_append}
+use Rattle.plcx_numbered.proofs.Alikes.{both_end, alike_then, alike_as, steps_append}
 use Rattle.plcx_numbered.proofs.Simple.{InFrame, fixed_self, operand_value, wired, behind_link, out_alike, contact_alike, coil_alike}
 use Rattle.plcx_numbered.proofs.Functions.{function_alike}
 use Rattle.plcx_numbered.proofs.Calling.{StepsStandard, CallsAlike, call_alike}

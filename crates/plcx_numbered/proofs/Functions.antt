@@ -1,6 +1,6 @@
 -- Functions under EN, and the outputs ENO and OUT.
-use Rattle.std.proofs.Common.{◌≡◌, ℕ, zero, suc, ◌+◌, ◌<◌, ◌≤◌, ℤ, pos, Bool, true, false, ◌&&◌, List, [], ◌∷◌, ◌++◌, length, set, map, Option, Some, None, Result, Ok, Err, refl, sym, ap, ap₂, ◌∙◌, subst, arith}
-use Rattle.std.specs.Prelude.{slice_get, slice_range, codes, nat_eq, is_some, ◌||◌, if◌then◌else◌}
+use Rattle.std.proofs.Common.{◌≡◌, ℕ, suc, ◌+◌, ◌<◌, ◌≤◌, ℤ, pos, Bool, true, false, ◌&&◌, List, [], ◌∷◌, ◌++◌, length, set, map, Option, Some, None, Result, Ok, Err, refl, sym, ap, ap₂, ◌∙◌, subst, arith}
+use Rattle.std.specs.Prelude.{slice_range, codes, nat_eq, if◌then◌else◌}
 use Rattle.std.specs.Str.{bytes_eq}
 use Rattle.std.proofs.lemmas.Bool.{false≢true}
 use Rattle.std.proofs.lemmas.List.{length-set}
@@ -13,21 +13,20 @@ use Rattle.plcx_types.specs.Lists.{Each}
 use Rattle.plcx_types.specs.Value.{Value}
 use Rattle.plcx_funcs.specs.declared.func.Func.{Func}
 use Rattle.plcx_funcs.specs.Applied.{value, applied}
-use Rattle.plcx_meaning.specs.Base.{is_true, not_of, Faulted, Outcome, Ended, Stopped, then_do, Site}
+use Rattle.plcx_meaning.specs.Base.{is_true, not_of, Faulted, Ended, then_do, Site}
 use Rattle.plcx_meaning.specs.Functions.{out_type}
 use Rattle.plcx_meaning.specs.Diagram.{Link, Enable, has_eno, eno_negated}
 use Rattle.plcx_meaning.specs.Evaluate.{Heard, DiagramState, Wires, fix, link_value, enable_value, fix_eno, turn, with_result, function_result}
-use Rattle.plcx_steps.specs.declared.program.Source.TheVariants.{Constant, Wire}
-use Rattle.plcx_steps.specs.declared.program.Argument.{Argument}
-use Rattle.plcx_steps.specs.declared.program.Action.TheVariants.{Fix, Not, Apply}
+use Rattle.plcx_steps.specs.declared.program.Source.TheVariants.{Constant}
+use Rattle.plcx_steps.specs.declared.program.Action.TheVariants.{Fix, Apply}
 use Rattle.plcx_steps.specs.declared.program.Step.{Step}
 use Rattle.plcx_steps.specs.declared.program.Step.TheVariants.{Act, Skip}
 use Rattle.plcx_steps.specs.Numbered.{Numbered, Here, Entered, Frame, frame, bit, number_at, cells_of, source_at, read, argument_at, arguments_at, set_wire, with_value, with_cells, step_in, steps_do}
 use Rattle.plcx_numbered.specs.Agreeing.{AreApart, Shape, IsApart, Lies, Agree, SameInOuts, SameWires, Alike}
-use Rattle.plcx_numbered.specs.Prepared.{Numbering, off, not_steps, joined_steps, link_steps, link_source, enable_steps, enabled, eno_steps, argument_steps, arguments, apply_steps, function_steps}
-use Rattle.plcx_numbered.specs.Right.{Plan, Place, IsWire, RightLink, RightEnable, HasAt}
-use Rattle.plcx_numbered.proofs.Alikes.{both_end, both_stop, alike_then, alike_as, alike_from, then_then, steps_append}
-use Rattle.plcx_numbered.proofs.Links.{SameMemories, spare_same, other_wire, same_wire, joined, brought, stays}
+use Rattle.plcx_numbered.specs.Prepared.{off, not_steps, link_steps, enable_steps, enabled, eno_steps, argument_steps, arguments, apply_steps, function_steps}
+use Rattle.plcx_numbered.specs.Right.{Place, IsWire, RightLink, RightEnable, HasAt}
+use Rattle.plcx_numbered.proofs.Alikes.{both_end, both_stop, alike_then, alike_as, alike_from, steps_append}
+use Rattle.plcx_numbered.proofs.Links.{SameMemories, other_wire, joined, brought, stays}
 use Rattle.plcx_numbered.proofs.Simple.{InFrame, wired, below}
 
 -- ENO and OUT are two outputs

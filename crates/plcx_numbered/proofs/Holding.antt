@@ -1,5 +1,5 @@
 -- A number is written at its place: the function changes at its key and nowhere else.
-use Rattle.std.proofs.Common.{◌≡◌, ◌≢◌, ℕ, zero, suc, ◌+◌, ◌<◌, ◌≤◌, ℤ, pos, Bool, true, false, List, [], ◌∷◌, ◌++◌, length, set, get_or, Option, Some, Decides, refl, sym, ap, ◌∙◌, subst, arith, get_or-set_other, append_assoc, add_assoc, zero-add}
+use Rattle.std.proofs.Common.{◌≡◌, ◌≢◌, ℕ, ◌+◌, ◌<◌, ◌≤◌, ℤ, pos, Bool, true, false, List, [], ◌∷◌, ◌++◌, length, set, Some, Decides, refl, sym, ap, ◌∙◌, subst, arith, get_or-set_other, append_assoc, add_assoc, zero-add}
 use Rattle.std.specs.Prelude.{slice_get, if◌then◌else◌}
 use Rattle.std.specs.List.{fold}
 use Rattle.std.proofs.lemmas.Bool.{true≢false}
@@ -12,7 +12,7 @@ use Rattle.plcx_meaning.specs.Base.{Path, same_path, Memory}
 use Rattle.plcx_meaning.specs.Evaluate.{Heard, DiagramState, Wires, no_wires, fix, set_leaf, set_memory, hear}
 use Rattle.plcx_steps.specs.declared.program.Instance.{Instance}
 use Rattle.plcx_steps.specs.Numbered.{Numbered, no_value, number_at, within}
-use Rattle.plcx_numbered.specs.Agreeing.{Holds, AreApart, Cell, Pin, plain_path, plain_memory, plain_cell, plain_pin, Shape, IsApart, Lies, Agree, SameWires}
+use Rattle.plcx_numbered.specs.Agreeing.{Holds, AreApart, Pin, plain_path, plain_memory, plain_cell, plain_pin, Shape, IsApart, Lies, Agree, SameWires}
 use Rattle.plcx_numbered.proofs.Keys.{paths_decide, same_cell, cells_decide, same_pin, pins_decide}
 
 pub holds_set : {K : Type 0} (plain : K → K) (same : K → K → Bool) → ((x y : K) → Decides (same x y) (plain x ≡ plain y)) → (keys : List K) → AreApart keys → (f : K → ℤ) (xs : List Value) (i : ℕ) (k : K) (v : ℤ) (w : Value)

@@ -8,3 +8,12 @@ pub mod Blocks
 pub mod Calling
 pub mod Elements
 pub mod Bodies
+pub mod Numbers
+pub mod Leaves
+pub mod Nested
+pub mod Variables
+pub mod Sources
+pub mod Callees
+pub mod Rights
+pub mod Programs
+pub mod Apart

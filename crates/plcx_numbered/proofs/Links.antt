@@ -1,21 +1,20 @@
 -- Sources and links: what steps bring into a spare wire is what stands there.
-use Rattle.std.proofs.Common.{◌≡◌, ℕ, zero, suc, ◌+◌, ◌<◌, ◌≤◌, ℤ, Bool, true, false, List, [], ◌∷◌, ◌++◌, length, set, get_or, map, Some, refl, sym, ap, ap₂, ◌∙◌, subst, arith, get_or-set_other}
-use Rattle.std.specs.Prelude.{slice_get}
+use Rattle.std.proofs.Common.{◌≡◌, ℕ, ◌+◌, ◌<◌, ◌≤◌, ℤ, Bool, true, false, List, [], ◌∷◌, ◌++◌, length, set, map, refl, sym, ap, ap₂, ◌∙◌, arith, get_or-set_other}
 use Rattle.std.proofs.lemmas.List.{length-set, get_or-set_same}
 use Rattle.plcx_types.specs.declared.ty.Ty.{Ty}
 use Rattle.plcx_types.specs.Name.{in_lower_case}
 use Rattle.plcx_types.specs.Lists.{Each}
 use Rattle.plcx_types.specs.Value.{Value}
-use Rattle.plcx_meaning.specs.Base.{Path, AtOutput, or_of, not_of, not_if, Outcome, Ended, then_do, Site}
+use Rattle.plcx_meaning.specs.Base.{AtOutput, or_of, not_of, not_if, Ended, then_do, Site}
 use Rattle.plcx_meaning.specs.Diagram as diagram
 use Rattle.plcx_meaning.specs.Diagram.{Link}
 use Rattle.plcx_meaning.specs.Evaluate.{Heard, DiagramState, Wires, source_value, or_all, link_value}
 use Rattle.plcx_steps.specs.declared.program.Source.{Source}
 use Rattle.plcx_steps.specs.declared.program.Source.TheVariants.{Wire}
 use Rattle.plcx_steps.specs.declared.program.Step.{Step}
-use Rattle.plcx_steps.specs.Numbered.{Numbered, Here, Entered, Frame, frame, no_value, bit, value_at, number_at, cells_of, source_at, read, steps_do}
+use Rattle.plcx_steps.specs.Numbered.{Numbered, Here, Entered, frame, no_value, bit, number_at, cells_of, source_at, read, steps_do}
 use Rattle.plcx_numbered.specs.Agreeing.{Holds, plain_cell, plain_pin, Shape, Lies, SameWires}
-use Rattle.plcx_numbered.specs.Prepared.{Numbering, source_of, is_plain, or_steps, not_steps, joined_steps, link_steps, link_source}
+use Rattle.plcx_numbered.specs.Prepared.{source_of, or_steps, not_steps, joined_steps, link_steps, link_source}
 use Rattle.plcx_numbered.specs.Right.{Place, RightSource, RightLink}
 use Rattle.plcx_numbered.proofs.Holding.{holds_behind}
 use Rattle.plcx_numbered.proofs.Alikes.{steps_append}

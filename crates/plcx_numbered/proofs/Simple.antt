@@ -1,27 +1,26 @@
 -- Kinds of elements that call nothing: their steps do over numbers what they do over paths.
-use Rattle.std.proofs.Common.{◌≡◌, ℕ, zero, suc, ◌+◌, ◌<◌, ◌≤◌, ℤ, pos, Bool, true, false, List, [], ◌∷◌, ◌++◌, length, set, get_or, map, Some, refl, sym, ap, ap₂, ◌∙◌, subst, arith}
-use Rattle.std.specs.Prelude.{slice_get, nat_eq, ◌&&◌, if◌then◌else◌}
-use Rattle.std.specs.Str.{bytes_eq}
+use Rattle.std.proofs.Common.{◌≡◌, ℕ, ◌+◌, ◌<◌, ◌≤◌, ℤ, pos, Bool, true, false, List, [], ◌∷◌, ◌++◌, length, set, Some, refl, sym, ap, ap₂, ◌∙◌, subst, arith}
+use Rattle.std.specs.Prelude.{slice_get, if◌then◌else◌}
 use Rattle.std.proofs.lemmas.List.{length-set}
 use Rattle.std.proofs.lemmas.Option.{slice_get_within}
 use Rattle.plcx_types.specs.Name.{in_lower_case}
 use Rattle.plcx_types.specs.Value.{Value}
-use Rattle.plcx_meaning.specs.Base.{Path, AtEdge, is_true, and_of, not_of, not_if, Outcome, Ended, then_do, Site}
+use Rattle.plcx_meaning.specs.Base.{AtEdge, is_true, and_of, not_of, Outcome, Ended, then_do, Site}
 use Rattle.plcx_meaning.specs.Diagram as diagram
 use Rattle.plcx_meaning.specs.Diagram.{Link, Own, Output, Storing, Stored, Inverted, Set, Reset, Contacting, Open, Closed, RisingContact, FallingContact, Coiling, By, RisingCoil, FallingCoil}
-use Rattle.plcx_meaning.specs.Evaluate.{Heard, DiagramState, Wires, fix, set_leaf, set_memory, is_in_out, leaf_named, operand_leaf, link_value, store_by, contact_value, contact_does, coil_does}
+use Rattle.plcx_meaning.specs.Evaluate.{Heard, DiagramState, Wires, fix, set_leaf, set_memory, leaf_named, operand_leaf, link_value, store_by, contact_value, contact_does, coil_does}
 use Rattle.plcx_steps.specs.declared.program.Operand.{Operand}
 use Rattle.plcx_steps.specs.declared.program.Operand.TheVariants.{Leaf, InOut}
 use Rattle.plcx_steps.specs.declared.program.Source.{Source}
 use Rattle.plcx_steps.specs.declared.program.Source.TheVariants.{Wire}
-use Rattle.plcx_steps.specs.declared.program.Action.TheVariants.{Fix, Write, Keep, Not, And}
+use Rattle.plcx_steps.specs.declared.program.Action.TheVariants.{Write}
 use Rattle.plcx_steps.specs.declared.program.Step.{Step}
-use Rattle.plcx_steps.specs.declared.program.Step.TheVariants.{Act, Skip}
-use Rattle.plcx_steps.specs.Numbered.{Numbered, Here, Entered, Frame, frame, bit, value_at, number_at, cells_of, source_at, read, leaf_at, step_in, steps_do}
-use Rattle.plcx_numbered.specs.Agreeing.{AreApart, plain_cell, Shape, IsApart, Lies, Agree, SameInOuts, SameWires, Alike}
-use Rattle.plcx_numbered.specs.Prepared.{Numbering, on, off, operand_of, link_steps, link_source, store_steps, contact_steps, coil_steps}
-use Rattle.plcx_numbered.specs.Right.{Plan, Place, variables, IsWire, IsCell, IsOperand, StandsFor, RightLink, RightOperand, RightContact, RightCoil}
-use Rattle.plcx_numbered.proofs.Keys.{same_pin, pins_decide}
+use Rattle.plcx_steps.specs.declared.program.Step.TheVariants.{Act}
+use Rattle.plcx_steps.specs.Numbered.{Numbered, Here, Entered, Frame, frame, bit, value_at, number_at, cells_of, read, leaf_at, step_in, steps_do}
+use Rattle.plcx_numbered.specs.Agreeing.{AreApart, Shape, IsApart, Lies, Agree, SameInOuts, SameWires, Alike}
+use Rattle.plcx_numbered.specs.Prepared.{on, off, operand_of, link_steps, link_source, store_steps, contact_steps, coil_steps}
+use Rattle.plcx_numbered.specs.Right.{Place, variables, IsWire, IsCell, IsOperand, StandsFor, RightLink, RightOperand, RightContact, RightCoil}
+use Rattle.plcx_numbered.proofs.Keys.{pins_decide}
 use Rattle.plcx_numbered.proofs.Holding.{wires_fix, agree_set, agree_keep}
 use Rattle.plcx_numbered.proofs.Alikes.{both_end, alike_as, alike_from, steps_append}
 use Rattle.plcx_numbered.proofs.Links.{spare_same, other_wire, same_wire, brought, stays}

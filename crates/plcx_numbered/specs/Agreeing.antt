@@ -1,12 +1,12 @@
 -- Which functions the numbers of a store are, and when two pieces of a scan are alike.
-use Rattle.std.specs.Prelude.{◌≡◌, ℕ, ◌+◌, ◌≤◌, ℤ, List, [], ◌∷◌, ◌++◌, Some, length, slice_get, slice_index_or}
+use Rattle.std.specs.Prelude.{◌≡◌, ℕ, ◌+◌, ◌≤◌, ℤ, List, ◌++◌, Some, length, slice_get, slice_index_or}
 use Rattle.std.specs.List.{fold}
 use Rattle.plcx_types.specs.Name.{in_lower_case}
 use Rattle.plcx_types.specs.Value.{Value}
-use Rattle.plcx_meaning.specs.Base.{Path, Memory, AtEdge, AtOutput, Outcome, Ended, Stopped, Stuck}
+use Rattle.plcx_meaning.specs.Base.{Path, Memory, AtEdge, AtOutput, Outcome, Ended, Stopped}
 use Rattle.plcx_meaning.specs.Evaluate.{Heard, DiagramState, Wires}
 use Rattle.plcx_steps.specs.declared.program.Instance.{Instance}
-use Rattle.plcx_steps.specs.Numbered.{Numbered, Frame, number_at}
+use Rattle.plcx_steps.specs.Numbered.{Numbered, number_at}
 
 -- the numbers are the values of a function, each at the key of its place
 pub record Holds {K : Type 0} (plain : K → K) (keys : List K) (f : K → ℤ) (xs : List Value) : Type 0 where

@@ -1,5 +1,5 @@
 -- When the numbers that steps use are right: what each has to be the number of, where an element mentions it.
-use Rattle.std.specs.Prelude.{◌≡◌, ℕ, ◌+◌, ◌<◌, ◌≤◌, pos, Bool, true, false, List, [], ◌∷◌, Option, Some, None, length, slice_get, slice_range, codes}
+use Rattle.std.specs.Prelude.{◌≡◌, ℕ, ◌+◌, ◌<◌, ◌≤◌, pos, true, false, List, [], ◌∷◌, Option, Some, None, length, slice_get, slice_range, codes}
 use Rattle.std.specs.List.{AllZip}
 use Rattle.plcx_types.specs.Name.{in_lower_case}
 use Rattle.plcx_types.specs.Lists.{Each}

@@ -1,5 +1,5 @@
 -- What a watch keeps that has room for so many outputs.
-use Rattle.std.specs.Prelude.{ℕ, Bool, List, [], ◌∷◌, ◌++◌, length, nat_lt, if◌then◌else◌}
+use Rattle.std.specs.Prelude.{ℕ, List, [], ◌∷◌, ◌++◌, length, nat_lt, if◌then◌else◌}
 use Rattle.plcx_meaning.specs.Evaluate.{Heard}
 use Rattle.plcx_steps.specs.declared.watching.Told.{Told}
 

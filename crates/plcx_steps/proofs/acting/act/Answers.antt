@@ -1,15 +1,13 @@
-use Rattle.std.proofs.Common.{◌≡◌, ℕ, ◌+◌, ◌<◌, List, length, map, Some, refl, sym, ap, ◌∙◌, subst, add_assoc, arith}
+use Rattle.std.proofs.Common.{◌≡◌, ℕ, ◌+◌, List, map, Some, refl, sym, ap, ◌∙◌, subst, add_assoc, arith}
 use Rattle.std.specs.Prelude.{slice_get, slice_range}
 use Rattle.plcx_types.specs.declared.ty.Ty.{Ty}
 use Rattle.plcx_types.specs.declared.ty.Ty.TheVariants as ty
 use Rattle.plcx_types.specs.Value.{Value}
-use Rattle.plcx_funcs.specs.Applied.{applied, FitsSignature}
 use Rattle.plcx_std.specs.Pins.{Pin, pins}
 use Rattle.plcx_state.specs.Stores.{Stored, HasValue}
 use Rattle.plcx_steps.specs.declared.program.Argument.{Argument}
-use Rattle.plcx_steps.specs.Numbered.{argument_at}
 use Rattle.plcx_steps.specs.Acting.{here_of, state_cells}
-use Rattle.plcx_steps.specs.Typed.{Shape, SameTypes, HasTypes, IsPlacedOf, IsOf, AreOf, arguments_of, Gives, IsTypedAction}
+use Rattle.plcx_steps.specs.Typed.{SameTypes, IsPlacedOf, IsOf, AreOf, arguments_of, Gives}
 use Rattle.plcx_steps.proofs.Standards.{standard_same}
 use Rattle.plcx_steps.proofs.Typing.{same_refl, same_set, place_type, source_type, kept_value, kept_memory, arguments_typed}
 use Rattle.plcx_steps.proofs.acting.act.Goals as goal

@@ -1,14 +1,12 @@
-use Rattle.std.proofs.Common.{rules, ◌≡◌, ℕ, ℤ, ◌+◌, ◌<◌, List, length, refl, sym, ap, ap₂, ◌∙◌, subst, arith, to_z, of_z, w64}
+use Rattle.std.proofs.Common.{rules, ◌≡◌, ◌+◌, List, length, sym, ap, ap₂, ◌∙◌, arith, to_z, of_z, w64}
 use Rattle.std.proofs.lemmas.Int.{ints}
 use Rattle.std.proofs.lemmas.List.{length-map}
 use Rattle.std.specs.Prelude.{slice_range}
 use mir.Val.{SFits}
 use Rattle.plcx_types.specs.Value.{Value}
-use Rattle.plcx_std.specs.Pins.{Pin, pins, shown}
+use Rattle.plcx_std.specs.Pins.{pins, shown}
 use Rattle.plcx_std.specs.State.{kind_of, values, stepped}
-use Rattle.plcx_state.specs.Stores.{Stored}
-use Rattle.plcx_meaning.specs.Standard.{state_of}
-use Rattle.plcx_steps.specs.Numbered.{pin_value, set_from}
+use Rattle.plcx_steps.specs.Numbered.{set_from}
 use Rattle.plcx_steps.proofs.Standards.{kind_default, kind_stepped, values_length, values_typed, state_of_values}
 use Rattle.plcx_steps.proofs.acting.call_standard.Goals as goal
 

@@ -1,4 +1,4 @@
-use Rattle.std.proofs.Common.{◌<◌, length, take, ◌∙◌, arith}
+use Rattle.std.proofs.Common.{length, take, ◌∙◌, arith}
 use Rattle.std.proofs.lemmas.List.{length-take, get_or-take}
 use Rattle.plcx_steps.specs.Numbered.{no_value, cells, argument_at}
 use Rattle.plcx_steps.specs.Acting.{here_of, no_argument}

@@ -1,6 +1,6 @@
 use Rattle.std.proofs.Common.{◌≡◌, ℕ, ◌+◌, ◌<◌, length, get_or}
 use Rattle.plcx_std.specs.State.{kind_of, values}
-use Rattle.plcx_steps.specs.Numbered.{no_value, value_at}
+use Rattle.plcx_steps.specs.Numbered.{no_value}
 use Rattle.plcx_steps.proofs.acting.load.Given as goal
 
 abbrev pub invariant-loop-i : goal.invariant-loop-i

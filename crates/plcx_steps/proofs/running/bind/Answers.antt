@@ -1,4 +1,4 @@
-use Rattle.std.proofs.Common.{◌≡◌, ℕ, ◌<◌, length, get_or, arith}
+use Rattle.std.proofs.Common.{ℕ, ◌<◌, length, arith}
 use Rattle.plcx_steps.specs.declared.program.Operand.TheVariants.{Leaf}
 use Rattle.plcx_steps.specs.Numbered.{leaf_at}
 use Rattle.plcx_steps.proofs.Places.{map_by}
