@@ -1,3 +1,4 @@
 pub mod Called
 pub mod Literals
 pub mod Guarded
+pub mod Emitted

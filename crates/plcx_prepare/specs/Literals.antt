@@ -1,5 +1,5 @@
 -- The literals at pins are values of their types.
-use Rattle.std.specs.Prelude.{◌≡◌, ℤ, Bool, true, List}
+use Rattle.std.specs.Prelude.{◌≡◌, ℤ, Bool, true}
 use Rattle.plcx_types.specs.declared.ty.Ty.{Ty}
 use Rattle.plcx_types.specs.declared.ty.Ty.TheVariants as ty
 use Rattle.plcx_types.specs.Lists.{Each}

@@ -1,12 +1,12 @@
 //! Calls of instances.
-ghost use Rattle.std.specs.Prelude.{◌≡◌, ◌++◌, length, map, IfOk};
+ghost use Rattle.std.specs.Prelude.{◌≡◌, ◌++◌, length, map, IfOk, [], ◌∷◌};
 ghost use Rattle.std.specs.Str.{bytes_eq};
 ghost use Rattle.plcx_types.specs.Name.{in_lower_case};
 ghost use Rattle.plcx_types.specs.Lists.{Each};
 ghost use Rattle.plcx_meaning.specs.Diagram.{enable_links};
 ghost use Rattle.plcx_drawn.specs.Shown.{shown_enable, shown_input_pin, shown_in_out_pin, shown_output_pin};
 ghost use Rattle.plcx_numbered.specs.Prepared.{input_steps, bound_variable, call_steps, bindings, output_steps, under, called_steps};
-ghost use Rattle.plcx_prepare.specs.Called.{shown_callee};
+ghost use Rattle.plcx_prepare.specs.Called.{shown_callee, key_of, bound_to};
 ghost use Rattle.plcx_prepare.specs.Literals.{HasLiterals, InputHasLiterals};
 
 use crate::emitting::{act, enter, next, not, put, skip};
@@ -203,7 +203,8 @@ pub(crate) fn called<N: Numbers>(
 ) -> Result<Vec<Step>, NoMemory>
     requires en { Each HasLiterals (enable_links (shown_enable own.now)) }
     requires inputs { Each InputHasLiterals (map shown_input_pin given.now) }
-    ensures { IfOk result (λ more. more.items ≡ steps.items ++ called_steps (N.numbering numbers.now) first instance.now (shown_enable own.now) (map shown_input_pin given.now) (map shown_output_pin told.now) id) }
+    ensures { IfOk result
+        (λ more. more.items ≡ steps.items ++ called_steps (N.numbering numbers.now) first instance.now (shown_enable own.now) (map shown_input_pin given.now) (map shown_output_pin told.now) id) }
 {
     let enabling = enable(numbers, steps, own)?;
     let inside = inputs(numbers, Vec::new(alloc), instance, given)?;
@@ -213,6 +214,3 @@ pub(crate) fn called<N: Numbers>(
     let fixed = outputs(numbers, answered, instance, id, told)?;
     Ok(not(fixed, eno_negated(own), numbers.wire(id, b"ENO"))?)
 }
-
-ghost use Rattle.std.specs.Prelude.{[], ◌∷◌};
-ghost use Rattle.plcx_prepare.specs.Called.{key_of, bound_to};

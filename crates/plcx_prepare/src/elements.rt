@@ -1,10 +1,12 @@
 //! Elements, with what feeds back and what watches are told.
-ghost use Rattle.std.specs.Prelude.{◌≡◌, ◌+◌, ◌++◌, length, map, IfOk};
+ghost use Rattle.std.specs.Prelude.{◌≡◌, ◌+◌, ◌∷◌, ◌++◌, [], map, IfOk};
+ghost use Rattle.plcx_types.specs.Lists.{Each};
 ghost use Rattle.plcx_types.specs.declared.ty.Ty.TheVariants as ty;
 ghost use Rattle.plcx_meaning.specs.Diagram.{In, Out, Contact, Coil, Pass};
-ghost use Rattle.plcx_drawn.specs.Shown.{shown_link, shown_operand, shown_storing, shown_contacting, shown_coiling, shown_kind, shown_port, shown_element};
-ghost use Rattle.plcx_numbered.specs.Prepared.{kind_steps, kind_arguments, kind_bindings, feed_steps, tell_steps, element_steps, elements_steps, elements_arguments, elements_bindings};
-ghost use Rattle.plcx_prepare.specs.Literals.{HasLiterals, KindHasLiterals};
+ghost use Rattle.plcx_drawn.specs.Shown.{shown_link, shown_operand, shown_storing, shown_contacting, shown_coiling, shown_kind, shown_port, shown_element, shown_elements, shown_network};
+ghost use Rattle.plcx_numbered.specs.Prepared.{kind_steps, kind_arguments, kind_bindings, feed_steps, tell_steps, element_steps};
+ghost use Rattle.plcx_prepare.specs.Literals.{HasLiterals, KindHasLiterals, ElementHasLiterals};
+ghost use Rattle.plcx_prepare.specs.Emitted.{Adds};
 
 use crate::calls::{called, with_bindings};
 use crate::emitting::{act, next, tell};
@@ -13,9 +15,12 @@ use crate::links::{link_source, link_steps};
 use crate::numbers::Numbers;
 use crate::plain;
 use crate::plain::{operand_of, store};
-use plcx_drawn::{Coiling, Contacting, ElementKind, Link, Operand, Port, Storing};
+use plcx_drawn::{
+    Coiling, Contacting, Drawing, Element, ElementKind, Link, Operand, Port, Storing, ports,
+};
 use plcx_steps::{Action, Argument, Source, Step};
 use plcx_types::NoMemory;
+use sqlite_items::at;
 use std::alloc::Global;
 
 /// What stands at a link, brought into the wire of the element.
@@ -83,7 +88,8 @@ fn contact<N: Numbers>(
     link: &Link,
 ) -> Result<Vec<Step>, NoMemory>
     requires { HasLiterals (shown_link link.now) }
-    ensures { IfOk result (λ more. let c = N.numbering numbers.now in more.items ≡ steps.items ++ kind_steps c 0 0 (Contact (shown_contacting how) (shown_operand operand.now) (shown_link link.now)) id) }
+    ensures { IfOk result
+        (λ more. let c = N.numbering numbers.now in more.items ≡ steps.items ++ kind_steps c 0 0 (Contact (shown_contacting how) (shown_operand operand.now) (shown_link link.now)) id) }
 {
     let spare = numbers.spare();
     let second = next(spare)?;
@@ -267,6 +273,94 @@ fn tell_all<N: Numbers>(
     for port in ports {
         all = tell(all, id, number, port.ty, numbers.wire(id, port.pin))?;
         number = following(number)?;
+    }
+    Ok(all)
+}
+
+/// What is prepared: steps, the inputs of functions, and what in-outs are bound to.
+#[derive(Debug, Drop)]
+pub struct Prepared {
+    pub steps: Vec<Step>,
+    pub arguments: Vec<Argument>,
+    pub bindings: Vec<plcx_steps::Operand>,
+}
+
+/// The steps of an element, where the program's arguments and bindings from these on are its own.
+fn element_steps<N: Numbers>(
+    numbers: &N,
+    alloc: Global,
+    steps: Vec<Step>,
+    argument: usize,
+    binding: usize,
+    element: &Element,
+) -> Result<Vec<Step>, NoMemory>
+    requires { ElementHasLiterals (shown_element element.now) }
+    ensures { IfOk result (λ more. more.items ≡ steps.items ++ element_steps (N.numbering numbers.now) argument binding (shown_element element.now)) }
+{
+    let id = element.id;
+    let done = kind(numbers, alloc, steps, argument, binding, &element.kind, id)?;
+    let fed = feed(numbers, done, id, element.fed.as_slice())?;
+    let ports = ports(alloc, &element.kind)?;
+    Ok(tell_all(numbers, fed, id, &ports)?)
+}
+
+/// One element more.
+fn with_element<N: Numbers>(
+    numbers: &N,
+    alloc: Global,
+    before: Prepared,
+    element: &Element,
+) -> Result<Prepared, NoMemory>
+    requires { ElementHasLiterals (shown_element element.now) }
+    ensures { IfOk result (λ after. Adds (N.numbering numbers.now) (shown_element element.now ∷ []) before after) }
+{
+    let Prepared {
+        steps,
+        arguments,
+        bindings,
+    } = before;
+    let (argument, binding) = (arguments.len(), bindings.len());
+    let steps = element_steps(numbers, alloc, steps, argument, binding, element)?;
+    let arguments = arguments_of(numbers, arguments, &element.kind)?;
+    let bindings = bindings_of(numbers, alloc, bindings, &element.kind)?;
+    Ok(Prepared {
+        steps,
+        arguments,
+        bindings,
+    })
+}
+
+/// The element at a place, where there is one.
+fn with_place<N: Numbers>(
+    numbers: &N,
+    alloc: Global,
+    before: Prepared,
+    drawing: &Drawing,
+    place: u32,
+) -> Result<Prepared, NoMemory>
+    requires { Each ElementHasLiterals (shown_elements drawing.now) }
+    ensures { IfOk result (λ after. Adds (N.numbering numbers.now) (shown_network drawing.now (place ∷ [])) before after) }
+{
+    match at(drawing.elements(), place as usize) {
+        None => Ok(before),
+        Some(element) => Ok(with_element(numbers, alloc, before, element)?),
+    }
+}
+
+/// The elements at these places, one after another.
+pub fn with_network<N: Numbers>(
+    numbers: &N,
+    alloc: Global,
+    before: Prepared,
+    drawing: &Drawing,
+    places: &[u32],
+) -> Result<Prepared, NoMemory>
+    requires { Each ElementHasLiterals (shown_elements drawing.now) }
+    ensures { IfOk result (λ after. Adds (N.numbering numbers.now) (shown_network drawing.now places.now) before after) }
+{
+    let mut all = before;
+    for place in places {
+        all = with_place(numbers, alloc, all, drawing, *place)?;
     }
     Ok(all)
 }

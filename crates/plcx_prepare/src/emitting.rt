@@ -3,6 +3,7 @@ ghost use Rattle.std.specs.Prelude.{◌≡◌, ◌+◌, ◌∷◌, ◌++◌, [],
 ghost use Rattle.plcx_funcs.specs.Applied.{value};
 ghost use Rattle.plcx_meaning.specs.Base.{not_if};
 ghost use Rattle.plcx_steps.specs.Numbered.{bit};
+ghost use Rattle.plcx_steps.specs.declared.program.Step.TheVariants.{Act, Skip, Enter, Tell};
 ghost use Rattle.plcx_numbered.specs.Prepared.{on, off, not_steps};
 ghost use Rattle.plcx_prepare.specs.Literals.{IsLiteral};
 
@@ -129,5 +130,3 @@ pub(crate) fn not(steps: Vec<Step>, negated: bool, wire: usize) -> Result<Vec<St
     let source = Source::Wire(wire);
     act(steps, Action::Not { source, wire })
 }
-
-ghost use Rattle.plcx_steps.specs.declared.program.Step.TheVariants.{Act, Skip, Enter, Tell};

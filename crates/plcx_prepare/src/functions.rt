@@ -5,6 +5,7 @@ ghost use Rattle.plcx_meaning.specs.Diagram.{has_eno, eno_negated, enable_links}
 ghost use Rattle.plcx_drawn.specs.Shown.{shown_link, shown_enable};
 ghost use Rattle.plcx_numbered.specs.Prepared.{enable_steps, enabled, eno_steps, argument_steps, arguments, apply_steps, function_steps};
 ghost use Rattle.plcx_prepare.specs.Literals.{HasLiterals};
+ghost use Rattle.plcx_prepare.specs.Guarded.{guarded, answered};
 
 use crate::emitting::{act, next, not, off, on, put, skip};
 use crate::links::{joined, link_source, link_steps};
@@ -160,6 +161,38 @@ fn apply<N: Numbers>(
     }
 }
 
+/// A function with these inputs, whose arguments are the program's from the first on.
+#[tactic(auto, using(crate::proofs::Laws::as_many))]
+fn apply_to<N: Numbers>(
+    numbers: &N,
+    steps: Vec<Step>,
+    id: u64,
+    func: Func,
+    ty: Ty,
+    enable: &Enable,
+    first: usize,
+    inputs: &[Link],
+) -> Result<Vec<Step>, NoMemory>
+    ensures { IfOk result (λ more. more.items ≡ steps.items ++ apply_steps (N.numbering numbers.now) id func ty (shown_enable enable.now) first (length (map shown_link inputs.now))) }
+{
+    Ok(apply(numbers, steps, id, func, ty, enable, first, inputs.len())?)
+}
+
+/// What stands behind a function: ENO, and both outputs under NOT where they are negated.
+fn answered<N: Numbers>(
+    numbers: &N,
+    steps: Vec<Step>,
+    id: u64,
+    enable: &Enable,
+    negated: bool,
+) -> Result<Vec<Step>, NoMemory>
+    ensures { IfOk result (λ more. more.items ≡ steps.items ++ answered (N.numbering numbers.now) id (shown_enable enable.now) negated) }
+{
+    let told = eno(numbers, steps, id, enable)?;
+    let turned = not(told, eno_negated(enable), numbers.wire(id, b"ENO"))?;
+    Ok(not(turned, negated, numbers.wire(id, b"OUT"))?)
+}
+
 /// A function, whose arguments are the program's from the first on.
 pub(crate) fn function<N: Numbers>(
     numbers: &N,
@@ -178,10 +211,6 @@ pub(crate) fn function<N: Numbers>(
 {
     let enabling = enable(numbers, steps, own)?;
     let given = argument_steps(numbers, enabling, next(numbers.spare())?, inputs)?;
-    let applied = apply(numbers, given, id, func, ty, own, first, inputs.len())?;
-    let told = eno(numbers, applied, id, own)?;
-    let turned = not(told, eno_negated(own), numbers.wire(id, b"ENO"))?;
-    Ok(not(turned, negated, numbers.wire(id, b"OUT"))?)
+    let applied = apply_to(numbers, given, id, func, ty, own, first, inputs)?;
+    Ok(answered(numbers, applied, id, own, negated)?)
 }
-
-ghost use Rattle.plcx_prepare.specs.Guarded.{guarded};

@@ -11,4 +11,5 @@ mod links;
 mod numbers;
 mod plain;
 
+pub use elements::{Prepared, with_network};
 pub use numbers::{Callee, Numbers};

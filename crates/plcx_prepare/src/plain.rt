@@ -1,6 +1,10 @@
 //! Elements that are no blocks.
-ghost use Rattle.std.specs.Prelude.{◌≡◌, ◌++◌, IfOk};
+ghost use Rattle.std.specs.Prelude.{◌≡◌, ◌++◌, IfOk, [], ◌∷◌};
+ghost use Rattle.plcx_meaning.specs.Diagram.{RisingContact, FallingContact};
 ghost use Rattle.plcx_drawn.specs.Shown.{shown_operand, shown_storing, shown_contacting, shown_coiling};
+ghost use Rattle.plcx_steps.specs.declared.program.Source.TheVariants.{Wire};
+ghost use Rattle.plcx_steps.specs.declared.program.Action.TheVariants.{Write, Keep, Not, And};
+ghost use Rattle.plcx_steps.specs.declared.program.Step.TheVariants.{Act};
 ghost use Rattle.plcx_numbered.specs.Prepared.{operand_of, store_steps, contact_steps, coil_steps};
 
 use crate::emitting::{act, next, off, on, skip};
@@ -168,9 +172,3 @@ pub(crate) fn coil(
         }
     }
 }
-
-ghost use Rattle.std.specs.Prelude.{[], ◌∷◌};
-ghost use Rattle.plcx_meaning.specs.Diagram.{RisingContact, FallingContact};
-ghost use Rattle.plcx_steps.specs.declared.program.Source.TheVariants.{Wire};
-ghost use Rattle.plcx_steps.specs.declared.program.Action.TheVariants.{Write, Keep, Not, And};
-ghost use Rattle.plcx_steps.specs.declared.program.Step.TheVariants.{Act};

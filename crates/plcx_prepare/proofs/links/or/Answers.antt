@@ -1,5 +1,3 @@
-use Rattle.std.proofs.Common.{◌<◌, length, map, rules, sym, subst}
-use Rattle.std.proofs.lemmas.List.{get_or-map}
 use Rattle.plcx_drawn.specs.declared.element.Source.TheVariants.{Rail}
 use Rattle.plcx_drawn.specs.Shown.{shown_source}
 use Rattle.plcx_prepare.specs.Literals.{SuitsType}
