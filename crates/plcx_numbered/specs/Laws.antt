@@ -8,7 +8,7 @@ use Rattle.plcx_meaning.specs.Fits.{ProjectFits}
 use Rattle.plcx_steps.specs.declared.program.Program.{Program}
 use Rattle.plcx_steps.specs.Numbered.{Numbered, bodies_do}
 use Rattle.plcx_steps.specs.Sound.{levels, origin}
-use Rattle.plcx_numbered.specs.Agreeing.{AreApart, IsApart, Agree, Alike, Nothing}
+use Rattle.plcx_numbered.specs.Agreeing.{IsApart, Agree, Alike, Nothing}
 use Rattle.plcx_numbered.specs.Right.{Plan, IsPrepared}
 use Rattle.plcx_numbered.specs.Numbers.{plans_of}
 use Rattle.plcx_numbered.specs.Programs.{IsProgramOf}
@@ -22,12 +22,12 @@ ScansAlike {M} tell =
     → (d : DiagramState) (n : Numbered M) → Agree plan.shape tell begun d n
     → Alike plan.shape tell begun Nothing (program_does time project plan.pou d) (bodies_do levels tell program (pos time) k origin [] n)
 
--- A program that is prepared of a project that fits has the right numbers, no POU calls more than 16 levels of blocks, a program has no in-outs, and no two leaves
--- of a POU have one path.
+-- A program that is prepared of a project that fits has the right numbers, no POU calls more than 16 levels of blocks, a program has no in-outs, and no leaf
+-- and no memory of a POU stands twice.
 abbrev pub PreparedRight : Type 0
 PreparedRight =
     (project : Project) (program : Program) → ProjectFits project → IsProgramOf project program
     → IsPrepared project (plans_of project) program
     × Each (λ (plan : Plan). plan.level < levels) (plans_of project)
     × Each (λ (plan : Plan). plan.pou.kind ≡ tree.Program → plan.in_outs ≡ []) (plans_of project)
-    × Each (λ (plan : Plan). AreApart plan.shape.paths) (plans_of project)
+    × Each (λ (plan : Plan). IsApart plan.shape) (plans_of project)
