@@ -9,14 +9,12 @@ use Rattle.plcx_meaning.specs.Layout.{Variable, Meaning, Elementary, Composed, m
 use Rattle.plcx_meaning.specs.Diagram.{Pou, Project}
 use Rattle.plcx_meaning.specs.Evaluate.{scope_of}
 use Rattle.plcx_meaning.specs.Fits.{PouFits, ProjectFits}
-use Rattle.plcx_meaning.proofs.Lists.{each_at, each_from, each_map, none_passes}
+use Rattle.plcx_meaning.proofs.Lists.{none_passes}
 use Rattle.plcx_meaning.proofs.Names.{bytes_self}
 use Rattle.plcx_meaning.proofs.LeafPaths.{proper_layout}
 use Rattle.plcx_meaning.proofs.LeafScopes.{diagram_scope}
-use Rattle.plcx_types.specs.Lists.{Each}
 use Rattle.plcx_numbered.specs.Agreeing.{AreApart}
-use Rattle.plcx_numbered.specs.Right.{Plan}
-use Rattle.plcx_numbered.specs.Numbers.{Place, behind, variable_places, places, shape_of, plan_of, plans_of}
+use Rattle.plcx_numbered.specs.Numbers.{Place, behind, variable_places, places, shape_of}
 use Rattle.plcx_numbered.proofs.Numbers.{apart_none, apart_cons}
 
 abbrev below : Path → List Place → List Path
@@ -77,10 +75,7 @@ whole (x ∷ xs) = ap₂ (λ a b. a ∷ b) (end x.0) (whole xs)
     end [] = refl
     end (y ∷ p) = ap (λ z. y ∷ z) (end p)
 
-paths_apart : (project : Project) → ProjectFits project → (p : Pou) → PouFits project p → AreApart (shape_of project p).paths
+pub paths_apart : (project : Project) → ProjectFits project → (p : Pou) → PouFits project p → AreApart (shape_of project p).paths
 paths_apart project fits p one =
     let c = scope_of project p in
     apart_of (shape_of project p).paths (subst (λ ps. all_apart ps ≡ true) (paths_are 18 c [] c.own ∙ whole (places 18 c.world c.own)) (proper_layout c (diagram_scope project fits p one)).apart)
-
-pub plans_apart : (project : Project) → ProjectFits project → Each (λ (plan : Plan). AreApart plan.shape.paths) (plans_of project)
-plans_apart project fits = each_map (λ (plan : Plan). AreApart plan.shape.paths) (plan_of project) project (each_from _ project (λ p there. paths_apart project fits p (each_at (PouFits project) project p fits.pous there)))

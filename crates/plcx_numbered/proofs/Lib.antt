@@ -17,3 +17,4 @@ pub mod Callees
 pub mod Rights
 pub mod Programs
 pub mod Apart
+pub mod Cells

@@ -1,5 +1,5 @@
 //! What holds of the definitions, each on a function of its own.
-ghost use Rattle.plcx_numbered.specs.Laws.{ScansAlike, PreparedRight};
+ghost use Rattle.plcx_numbered.specs.Laws.{ScansAlike, PreparedRight, ProgramsAlike};
 
 use plcx_steps::Watch;
 
@@ -11,4 +11,9 @@ pub fn scans_are_alike<W: Watch>()
 /// What is prepared of a project that fits has the right numbers.
 pub fn prepared_is_right()
     ensures { PreparedRight }
+{}
+
+/// A scan of what is prepared of a project that fits is alike the diagram's, whoever watches.
+pub fn programs_are_alike<W: Watch>()
+    ensures { ProgramsAlike W.told }
 {}

@@ -7,4 +7,4 @@
 
 mod laws;
 
-pub use laws::{prepared_is_right, scans_are_alike};
+pub use laws::{prepared_is_right, programs_are_alike, scans_are_alike};

@@ -1,5 +1,5 @@
 use Rattle.plcx_numbered.proofs.Programs.{program_right, plans_low, programs_free}
-use Rattle.plcx_numbered.proofs.Apart.{plans_apart}
+use Rattle.plcx_numbered.proofs.Cells.{plans_apart}
 use Rattle.plcx_numbered.proofs.laws.prepared_is_right.Goals as goal
 
 pub returns : goal.returns
