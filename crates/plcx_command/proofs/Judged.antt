@@ -1,5 +1,5 @@
 -- The verdict on a file, pass by pass.
-use Rattle.std.proofs.Common.{◌≡◌, ◌∙◌, ℕ, List, Some, None, sym, ap, subst, refl}
+use Rattle.std.proofs.Common.{◌≡◌, ℕ, List, None, subst}
 use Rattle.plcx_xml.specs.Faults.{Fails}
 use Rattle.plcx_xml.specs.StandsForTree.{IsTreeOf}
 use Rattle.plcx_xml.specs.declared.error.XmlError.{XmlError}

@@ -1,16 +1,15 @@
 -- What each status was written for.
-use Rattle.std.proofs.Common.{◌≡◌, ◌≢◌, ◌≤◌, ◌<◌, ◌↔◌, ℕ, List, Bool, true, false, refl, sym, ap, ◌∙◌, subst, inl, inr, ◌⊎◌, length, Option, Some, None, arith}
+use Rattle.std.proofs.Common.{◌≡◌, ◌↔◌, ℕ, List, true, refl, sym, ap, ◌∙◌, subst, inl, inr, ◌⊎◌, Option, Some, None}
 use Rattle.plcx_io.specs.Counts.{Rose}
 use Rattle.plcx_io.specs.Told.{Tells}
 use Rattle.plcx_words.specs.Command.{Command, check, compile, simulate, run, bench}
 use Rattle.plcx_model.specs.declared.broken.Broken as model
 use Rattle.plcx_types.specs.Limits.{max_file_bytes}
-use Rattle.plcx_command.specs.Answer.{Answer, output, refusal, ok_answer, ok_line, usage_answer, usage_line, read_answer, read_line, broken_answer, broken_line, memory_answer, memory_line, not_built_answer, not_built_line, write_line}
+use Rattle.plcx_command.specs.Answer.{Answer, output, refusal, ok_line, usage_line, read_answer, read_line, broken_line, memory_answer, memory_line, not_built_line, write_line}
 use Rattle.plcx_command.specs.Verdict as verdict
 use Rattle.plcx_command.specs.Verdict.{Verdict, IsVerdict, FileVerdict, TooLong, Within, at_byte}
 use Rattle.plcx_command.specs.Says.{Says, AfterRead, fault, too_long, whole, Judged, Answers, IsText, IsAccepting, long_answer}
 use Rattle.plcx_command.specs.Ends.{Ends, Change, Written, Gets, GetsFront, Unchanged, MaySay}
-use Rattle.plcx_command.specs.Headline as headline
 use Rattle.plcx_command.specs.Headline.{IsDefined, file_of, IsTold, IsJudged, is_to_come, IsRefusal, CompilesExactly, ChecksExactly, RefusesUsage, RefusesBroken, RefusesNotBuilt, BlamesReads, BlamesWrites, TellsMemory, IsComplete}
 use Rattle.plcx_command.specs.declared.status.Refused.{Refused}
 use Rattle.plcx_command.specs.declared.status.Refused.TheVariants as why'

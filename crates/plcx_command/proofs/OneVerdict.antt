@@ -1,5 +1,5 @@
 -- A file has one verdict.
-use Rattle.std.proofs.Common.{◌≡◌, ◌≢◌, ◌≤◌, ◌<◌, ℕ, List, refl, sym, ap, ap₂, ◌∙◌, subst, length, Option, Some, None, arith}
+use Rattle.std.proofs.Common.{◌≡◌, ◌≢◌, ℕ, List, refl, sym, ap, ap₂, ◌∙◌, subst, Option, Some, None, arith}
 use Rattle.plcx_xml.specs.Faults.{Fails}
 use Rattle.plcx_xml.specs.StandsForTree.{IsTreeOf}
 use Rattle.plcx_xml.specs.declared.error.XmlError.{XmlError}
@@ -10,7 +10,6 @@ use Rattle.plcx_model.specs.declared.broken.Place.{Place}
 use Rattle.plcx_model.specs.declared.broken.Place.TheVariants.{Byte}
 use Rattle.plcx_model.specs.declared.project.Project as model'
 use Rattle.plcx_profile.specs.Profile.{IsBroken, ProfileVerdict, project_in}
-use Rattle.plcx_types.specs.Limits.{max_file_bytes}
 use Rattle.plcx_rules.specs.CheckVerdict.{CheckVerdict}
 use Rattle.plcx_command.specs.Verdict.{Verdict, Broken, Breaks, InTree, InProfile, InProject, Keeps, IsVerdict, Refused, Passed, FileVerdict, TooLong, Within, tree_rule}
 
