@@ -3,12 +3,13 @@ use Rattle.std.proofs.Common.{◌≡◌, Bool, true, false, List, [], ◌∷◌,
 use Rattle.plcx_types.specs.Lists.{Each}
 use Rattle.plcx_meaning.specs.Tree.{Class, Mark, Declaration, Statement, statements}
 use Rattle.plcx_meaning.specs.Templates.{block}
-use Rattle.plcx_st.specs.InRange.{DeclarationInRange, BlockInRange, StatementInRange, StatementsInRange}
+use Rattle.plcx_st.specs.InRange.{StatementInRange, StatementsInRange}
+use Rattle.plcx_jump.specs.Named.{IsNamed, BlockIsNamed}
 
 -- the declarations of a block
-pub declared : (class : Class) (mark : Mark) (ds : List Declaration) → Each BlockInRange (block class mark ds) → Each DeclarationInRange ds
+pub declared : (class : Class) (mark : Mark) (ds : List Declaration) → Each BlockIsNamed (block class mark ds) → Each IsNamed ds
 declared class mark [] h = tt
-declared class mark (d ∷ ds) h = h.0.1
+declared class mark (d ∷ ds) h = h.0
 
 -- the statements of a body
 pub stated : (ss : List Statement) → StatementsInRange (statements ss) → Each StatementInRange ss

@@ -3,3 +3,4 @@ pub mod Blocks
 pub mod Jumps
 pub mod Choices
 pub mod Places
+pub mod Propositions

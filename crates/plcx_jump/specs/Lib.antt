@@ -2,3 +2,5 @@
 pub mod Texts
 -- Serves proofs: labels by their names.
 pub mod Labels
+-- Serves proofs: which declarations have names.
+pub mod Named

@@ -7,7 +7,10 @@ ghost use Rattle.plcx_view.specs.Checked.{IsChecked};
 ghost use Rattle.plcx_view.specs.Declared.{kind_of_pou};
 ghost use Rattle.plcx_view.specs.Diagrams.{diagrams_of};
 ghost use Rattle.plcx_drawn.specs.Pous.{shown_pou};
-ghost use Rattle.plcx_st.specs.InRange.{PouInRange, UnitInRange};
+ghost use Rattle.plcx_types.specs.Lists.{Each};
+ghost use Rattle.plcx_meaning.specs.Tree.{statements};
+ghost use Rattle.plcx_st.specs.InRange.{StatementsInRange, UnitInRange};
+ghost use Rattle.plcx_jump.specs.Named.{BlockIsNamed};
 ghost use Rattle.plcx_st.specs.Fitting.{UnitFits};
 ghost use Rattle.plcx_st.specs.Meant.{kind_meant, pou_meant, meant};
 
@@ -38,7 +41,8 @@ fn kind_of(kind: PouKind) -> TextKind
 
 /// The text of a POU.
 fn pou_text(alloc: Global, pous: &[Pou], drawing: &Drawing) -> Result<PouText, NoMemory>
-    requires range { PouInRange (pou_text (shown_pou pous.now drawing.now)) }
+    requires blocks { Each BlockIsNamed (pou_text (shown_pou pous.now drawing.now)).blocks }
+    requires body { StatementsInRange (statements (pou_text (shown_pou pous.now drawing.now)).body) }
     requires few { length drawing.now.networks.now < 2 ^ 31 }
     ensures { IfOk result (λ text. pou_meant text ≡ pou_text (shown_pou pous.now drawing.now)) }
 {
@@ -61,7 +65,6 @@ fn text_at<'a>(
     checked: &'a Checked,
     place: usize,
 ) -> Result<PouText, NoMemory>
-    requires checked { IsChecked checked.now.project checked.now.links checked.now.types checked.now.plan }
     requires scope { scope.now ≡ checked.now.project.pous }
     requires place { place < length checked.now.project.pous }
     ensures { IfOk result (λ text. slice_get (unit_of (diagrams_of checked.now.project checked.now.links checked.now.types checked.now.plan)) place ≡ Some (pou_meant text)) }
@@ -81,7 +84,6 @@ fn text_at<'a>(
 
 /// The texts of all POUs.
 fn texts(alloc: Global, checked: &Checked) -> Result<Vec<PouText>, NoMemory>
-    requires { IsChecked checked.now.project checked.now.links checked.now.types checked.now.plan }
     ensures { IfOk result (λ texts. map pou_meant texts.items ≡ unit_of (diagrams_of checked.now.project checked.now.links checked.now.types checked.now.plan)) }
 {
     let pous = checked.project().pous();
@@ -95,12 +97,11 @@ fn texts(alloc: Global, checked: &Checked) -> Result<Vec<PouText>, NoMemory>
 
 /// The unit of a project that breaks no rule. Its words stand nowhere yet.
 pub fn compile(alloc: Global, checked: &Checked) -> Result<Unit, NoMemory>
-    requires { IsChecked checked.now.project checked.now.links checked.now.types checked.now.plan }
     ensures unit { IfOk result (λ unit. meant unit ≡ unit_of (diagrams_of checked.now.project checked.now.links checked.now.types checked.now.plan)) }
-    ensures in_range { IfOk result (λ unit. UnitInRange (meant unit)) }
-    ensures fits { IfOk result (λ unit. UnitFits (meant unit)) }
-    ensures ready { IfOk result (λ unit. IsReady (meant unit)) }
-    ensures behaves { IfOk result (λ unit. Behaves (diagrams_of checked.now.project checked.now.links checked.now.types checked.now.plan) (meant unit)) }
+    ensures in_range { IfOk result (λ unit. IsChecked checked.now.project checked.now.links checked.now.types checked.now.plan → UnitInRange (meant unit)) }
+    ensures fits { IfOk result (λ unit. IsChecked checked.now.project checked.now.links checked.now.types checked.now.plan → UnitFits (meant unit)) }
+    ensures ready { IfOk result (λ unit. IsChecked checked.now.project checked.now.links checked.now.types checked.now.plan → IsReady (meant unit)) }
+    ensures behaves { IfOk result (λ unit. IsChecked checked.now.project checked.now.links checked.now.types checked.now.plan → Behaves (diagrams_of checked.now.project checked.now.links checked.now.types checked.now.plan) (meant unit)) }
 {
     checked_fits();
     texts_are_in_range();

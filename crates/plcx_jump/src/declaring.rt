@@ -8,7 +8,7 @@ ghost use Rattle.plcx_meaning.specs.Diagram.{has_edge};
 ghost use Rattle.plcx_meaning.specs.Templates.{own, block, list_text, element_memories, element_wires};
 ghost use Rattle.plcx_view.specs.Declared.{spelled_type, declaration_of, class_of, mark_by, list_of, lists_of};
 ghost use Rattle.plcx_drawn.specs.Shown.{shown_kind, shown_element, shown_port};
-ghost use Rattle.plcx_st.specs.InRange.{DeclarationInRange, BlockInRange};
+ghost use Rattle.plcx_jump.specs.Named.{IsNamed, BlockIsNamed};
 ghost use Rattle.plcx_st.specs.Meant.{number_meant, decl_meant, block_meant, class_meant, mark_meant};
 
 use plcx_drawn::{Coiling, Contacting, Element, ElementKind, Port, ports};
@@ -54,7 +54,7 @@ fn address_of(alloc: Global, address: &Option<Items<u8>>) -> Result<Option<Items
 }
 
 fn variable_decl(alloc: Global, pous: &[Pou], variable: &Variable) -> Result<Decl, NoMemory>
-    requires { DeclarationInRange (declaration_of pous.now variable.now) }
+    requires { IsNamed (declaration_of pous.now variable.now) }
     ensures { IfOk result (λ decl. decl_meant decl ≡ declaration_of pous.now variable.now) }
 {
     Ok(Decl {
@@ -70,7 +70,7 @@ fn variable_decls(
     pous: &[Pou],
     variables: &[Variable],
 ) -> Result<Vec<Decl>, NoMemory>
-    requires { Each DeclarationInRange (map (declaration_of pous.now) variables.now) }
+    requires { Each IsNamed (map (declaration_of pous.now) variables.now) }
     ensures { IfOk result (λ decls. map decl_meant decls.items ≡ map (declaration_of pous.now) variables.now) }
 {
     let mut decls = Vec::new(alloc);
@@ -130,7 +130,7 @@ fn put_list(
     blocks: &mut Vec<TextBlock>,
     list: &VarList,
 ) -> Result<(), NoMemory>
-    requires { Each BlockInRange (list_text (list_of pous.now list.now)) }
+    requires { Each BlockIsNamed (list_text (list_of pous.now list.now)) }
     ensures { OnOk result (map block_meant blocks.new.items ≡ map block_meant blocks.old.items ++ list_text (list_of pous.now list.now)) }
 {
     let decls = variable_decls(alloc, pous, list.variables())?;
@@ -139,7 +139,7 @@ fn put_list(
 
 /// The lists of a POU, of which an empty one has no block.
 fn list_blocks(alloc: Global, pous: &[Pou], pou: &Pou) -> Result<Vec<TextBlock>, NoMemory>
-    requires { Each BlockInRange (flat_map list_text (lists_of pous.now pou.now)) }
+    requires { Each BlockIsNamed (flat_map list_text (lists_of pous.now pou.now)) }
     ensures { IfOk result (λ blocks. map block_meant blocks.items ≡ flat_map list_text (lists_of pous.now pou.now)) }
 {
     let mut blocks = Vec::new(alloc);
@@ -176,7 +176,7 @@ fn has_edge(kind: &ElementKind) -> bool
 
 /// What an element remembers at its edge, if it has one.
 fn put_edge(alloc: Global, decls: &mut Vec<Decl>, element: &Element) -> Result<(), NoMemory>
-    requires { Each DeclarationInRange (edge_memories (shown_element element.now)) }
+    requires { Each IsNamed (edge_memories (shown_element element.now)) }
     ensures { OnOk result (map decl_meant decls.new.items ≡ map decl_meant decls.old.items ++ edge_memories (shown_element element.now)) }
 {
     if has_edge(&element.kind) {
@@ -187,7 +187,7 @@ fn put_edge(alloc: Global, decls: &mut Vec<Decl>, element: &Element) -> Result<(
 
 /// The variable of an output that feeds back.
 fn fed_decl(alloc: Global, id: u64, port: &Port) -> Result<Decl, NoMemory>
-    requires { DeclarationInRange (fed_memory id (shown_port port.now)) }
+    requires { IsNamed (fed_memory id (shown_port port.now)) }
     ensures { IfOk result (λ decl. decl_meant decl ≡ fed_memory id (shown_port port.now)) }
 {
     own_decl(alloc, fed_word(alloc, id, port.pin)?, port.ty)
@@ -197,7 +197,7 @@ ghost use Rattle.plcx_jump.specs.Texts.{edge_memories, fed_memory, wire_of, temp
 
 /// What feeds back of an element.
 fn put_fed(alloc: Global, decls: &mut Vec<Decl>, id: u64, fed: &[Port]) -> Result<(), NoMemory>
-    requires { Each DeclarationInRange (map (fed_memory id) (map shown_port fed.now)) }
+    requires { Each IsNamed (map (fed_memory id) (map shown_port fed.now)) }
     ensures { OnOk result (map decl_meant decls.new.items ≡ map decl_meant decls.old.items ++ map (fed_memory id) (map shown_port fed.now)) }
 {
     for port in fed {
@@ -208,7 +208,7 @@ fn put_fed(alloc: Global, decls: &mut Vec<Decl>, id: u64, fed: &[Port]) -> Resul
 
 /// What an element remembers: its edge, then what feeds back.
 fn put_memories(alloc: Global, decls: &mut Vec<Decl>, element: &Element) -> Result<(), NoMemory>
-    requires { Each DeclarationInRange (element_memories (shown_element element.now)) }
+    requires { Each IsNamed (element_memories (shown_element element.now)) }
     ensures { OnOk result (map decl_meant decls.new.items ≡ map decl_meant decls.old.items ++ element_memories (shown_element element.now)) }
 {
     put_edge(alloc, decls, element)?;
@@ -216,7 +216,7 @@ fn put_memories(alloc: Global, decls: &mut Vec<Decl>, element: &Element) -> Resu
 }
 
 fn memory_decls(alloc: Global, elements: &[Element]) -> Result<Vec<Decl>, NoMemory>
-    requires { Each DeclarationInRange (flat_map element_memories (map shown_element elements.now)) }
+    requires { Each IsNamed (flat_map element_memories (map shown_element elements.now)) }
     ensures { IfOk result (λ decls. map decl_meant decls.items ≡ flat_map element_memories (map shown_element elements.now)) }
 {
     let mut decls = Vec::new(alloc);
@@ -228,7 +228,7 @@ fn memory_decls(alloc: Global, elements: &[Element]) -> Result<Vec<Decl>, NoMemo
 
 /// The temporary of a wire.
 fn wire_decl(alloc: Global, id: u64, port: &Port) -> Result<Decl, NoMemory>
-    requires { DeclarationInRange (wire_of id (shown_port port.now)) }
+    requires { IsNamed (wire_of id (shown_port port.now)) }
     ensures { IfOk result (λ decl. decl_meant decl ≡ wire_of id (shown_port port.now)) }
 {
     own_decl(alloc, wire_word(alloc, id, port.pin)?, port.ty)
@@ -236,7 +236,7 @@ fn wire_decl(alloc: Global, id: u64, port: &Port) -> Result<Decl, NoMemory>
 
 /// These wires of an element.
 fn put_ports(alloc: Global, decls: &mut Vec<Decl>, id: u64, wires: &[Port]) -> Result<(), NoMemory>
-    requires { Each DeclarationInRange (map (wire_of id) (map shown_port wires.now)) }
+    requires { Each IsNamed (map (wire_of id) (map shown_port wires.now)) }
     ensures { OnOk result (map decl_meant decls.new.items ≡ map decl_meant decls.old.items ++ map (wire_of id) (map shown_port wires.now)) }
 {
     for port in wires {
@@ -247,7 +247,7 @@ fn put_ports(alloc: Global, decls: &mut Vec<Decl>, id: u64, wires: &[Port]) -> R
 
 /// The wires of an element.
 fn put_wires(alloc: Global, decls: &mut Vec<Decl>, element: &Element) -> Result<(), NoMemory>
-    requires { Each DeclarationInRange (element_wires (shown_element element.now)) }
+    requires { Each IsNamed (element_wires (shown_element element.now)) }
     ensures { OnOk result (map decl_meant decls.new.items ≡ map decl_meant decls.old.items ++ element_wires (shown_element element.now)) }
 {
     let wires = ports(alloc, &element.kind)?;
@@ -255,7 +255,7 @@ fn put_wires(alloc: Global, decls: &mut Vec<Decl>, element: &Element) -> Result<
 }
 
 fn wire_decls(alloc: Global, elements: &[Element]) -> Result<Vec<Decl>, NoMemory>
-    requires { Each DeclarationInRange (flat_map element_wires (map shown_element elements.now)) }
+    requires { Each IsNamed (flat_map element_wires (map shown_element elements.now)) }
     ensures { IfOk result (λ decls. map decl_meant decls.items ≡ flat_map element_wires (map shown_element elements.now)) }
 {
     let mut decls = Vec::new(alloc);
@@ -267,7 +267,7 @@ fn wire_decls(alloc: Global, elements: &[Element]) -> Result<Vec<Decl>, NoMemory
 
 /// The wires of all elements, and behind them the counter of a body that jumps.
 fn temporary_decls(alloc: Global, elements: &[Element], jumps: bool) -> Result<Vec<Decl>, NoMemory>
-    requires { Each DeclarationInRange (flat_map element_wires (map shown_element elements.now)) }
+    requires { Each IsNamed (flat_map element_wires (map shown_element elements.now)) }
     ensures { IfOk result (λ decls. map decl_meant decls.items ≡ temporaries jumps (map shown_element elements.now)) }
 {
     let mut decls = wire_decls(alloc, elements)?;
@@ -285,7 +285,7 @@ pub fn blocks(
     elements: &[Element],
     jumps: bool,
 ) -> Result<Vec<TextBlock>, NoMemory>
-    requires { Each BlockInRange (blocks_of (lists_of pous.now pou.now) (map shown_element elements.now) jumps) }
+    requires { Each BlockIsNamed (blocks_of (lists_of pous.now pou.now) (map shown_element elements.now) jumps) }
     ensures { IfOk result (λ blocks. map block_meant blocks.items ≡ blocks_of (lists_of pous.now pou.now) (map shown_element elements.now) jumps) }
 {
     let mut blocks = list_blocks(alloc, pous, pou)?;

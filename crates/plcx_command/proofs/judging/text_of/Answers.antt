@@ -9,4 +9,4 @@ returns c =
     let p = c.args.checked.now in
     let unit = c.in_ok-unit.ensures in
     IfOk-weaker c.print.result _ _ (λ text e. text_made c.one_unit.ensures c.read_again.ensures
-    (diagrams_of p.project p.links p.types p.plan) (meant c.in_ok-unit.unit) text.items unit.unit unit.in_range unit.fits unit.ready unit.behaves e) c.print.ensures.printed
+    (diagrams_of p.project p.links p.types p.plan) (meant c.in_ok-unit.unit) text.items unit.unit (unit.in_range c.requires) (unit.fits c.requires) (unit.ready c.requires) (unit.behaves c.requires) e) c.print.ensures.printed

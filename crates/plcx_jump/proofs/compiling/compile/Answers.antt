@@ -12,12 +12,12 @@ pub returns : goal.returns
 returns c =
     let a = c.args.checked.now in
     let diagrams = diagrams_of a.project a.links a.types a.plan in
-    let fits = c.checked_fits.ensures a.project a.links a.types a.plan c.requires in
+    let fits = c.checked_fits.ensures a.project a.links a.types a.plan in
     let same : map pou_meant c.from_vec.result ≡ unit_of diagrams = ap (map pou_meant) c.from_vec.ensures ∙ c.in_ok-texts.ensures in
     record {
       unit = same;
-      in_range = subst UnitInRange (sym same) (c.texts_are_in_range.ensures.range diagrams fits);
-      fits = subst UnitFits (sym same) (c.texts_are_in_range.ensures.fits diagrams fits);
-      ready = subst IsReady (sym same) (c.texts_are_ready.ensures diagrams fits);
-      behaves = subst (Behaves diagrams) (sym same) (c.same_behavior.ensures.behaves diagrams fits);
+      in_range = λ checked. subst UnitInRange (sym same) (c.texts_are_in_range.ensures.range diagrams (fits checked));
+      fits = λ checked. subst UnitFits (sym same) (c.texts_are_in_range.ensures.fits diagrams (fits checked));
+      ready = λ checked. subst IsReady (sym same) (c.texts_are_ready.ensures diagrams (fits checked));
+      behaves = λ checked. subst (Behaves diagrams) (sym same) (c.same_behavior.ensures.behaves diagrams (fits checked));
     }

@@ -3,7 +3,7 @@ use Rattle.std.specs.List.{flat_map}
 use Rattle.plcx_types.specs.Lists.{Each}
 use Rattle.plcx_meaning.specs.Templates.{list_text}
 use Rattle.plcx_view.specs.Declared.{list_of}
-use Rattle.plcx_st.specs.InRange.{BlockInRange}
+use Rattle.plcx_jump.specs.Named.{BlockIsNamed}
 use Rattle.plcx_st.specs.Meant.{block_meant}
 use Rattle.plcx_jump.proofs.declaring.list_blocks.Given as goal
 
@@ -11,5 +11,5 @@ use Rattle.plcx_jump.proofs.declaring.list_blocks.Given as goal
 abbrev pub invariant-loop-list : goal.invariant-loop-list
 invariant-loop-list l = record {
   made : map block_meant l.blocks.items ++ flat_map list_text (map (list_of l.pous) (drop l.list-index l.list-items)) ≡ flat_map list_text (map (list_of l.pous) l.list-items);
-  range : Each BlockInRange (flat_map list_text (map (list_of l.pous) (drop l.list-index l.list-items)));
+  range : Each BlockIsNamed (flat_map list_text (map (list_of l.pous) (drop l.list-index l.list-items)));
 }
