@@ -1,5 +1,5 @@
 -- What is in range of blocks and statements is in range of their parts.
-use Rattle.std.proofs.Common.{◌≡◌, Bool, true, false, List, [], ◌∷◌, ◌++◌, sym, ap, subst}
+use Rattle.std.proofs.Common.{List, [], ◌∷◌}
 use Rattle.plcx_types.specs.Lists.{Each}
 use Rattle.plcx_meaning.specs.Tree.{Class, Mark, Declaration, Statement, statements}
 use Rattle.plcx_meaning.specs.Templates.{block}

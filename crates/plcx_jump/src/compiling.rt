@@ -101,7 +101,8 @@ pub fn compile(alloc: Global, checked: &Checked) -> Result<Unit, NoMemory>
     ensures in_range { IfOk result (λ unit. IsChecked checked.now.project checked.now.links checked.now.types checked.now.plan → UnitInRange (meant unit)) }
     ensures fits { IfOk result (λ unit. IsChecked checked.now.project checked.now.links checked.now.types checked.now.plan → UnitFits (meant unit)) }
     ensures ready { IfOk result (λ unit. IsChecked checked.now.project checked.now.links checked.now.types checked.now.plan → IsReady (meant unit)) }
-    ensures behaves { IfOk result (λ unit. IsChecked checked.now.project checked.now.links checked.now.types checked.now.plan → Behaves (diagrams_of checked.now.project checked.now.links checked.now.types checked.now.plan) (meant unit)) }
+    ensures behaves { IfOk result (λ unit. IsChecked checked.now.project checked.now.links checked.now.types checked.now.plan
+        → Behaves (diagrams_of checked.now.project checked.now.links checked.now.types checked.now.plan) (meant unit)) }
 {
     checked_fits();
     texts_are_in_range();

@@ -1,4 +1,4 @@
-use Rattle.std.proofs.Common.{List, ℕ, ◌+◌, ◌∷◌, map, drop, subst, sym}
+use Rattle.std.proofs.Common.{List, ℕ, ◌+◌, map, subst, sym}
 use Rattle.plcx_types.specs.Lists.{Each}
 use Rattle.plcx_meaning.specs.Diagram.{DiagramElement}
 use Rattle.plcx_meaning.specs.Tree.{arms}

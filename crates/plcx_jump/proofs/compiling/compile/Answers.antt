@@ -1,4 +1,4 @@
-use Rattle.std.proofs.Common.{List, ◌≡◌, ◌∙◌, ap, map, subst, sym}
+use Rattle.std.proofs.Common.{◌≡◌, ◌∙◌, ap, map, subst, sym}
 use Rattle.plcx_meaning.specs.Ready.{IsReady}
 use Rattle.plcx_meaning.specs.Same.{Behaves}
 use Rattle.plcx_meaning.specs.Templates.{unit_of}

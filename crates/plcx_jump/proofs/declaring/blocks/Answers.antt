@@ -1,4 +1,4 @@
-use Rattle.std.proofs.Common.{map, ◌++◌}
+use Rattle.std.proofs.Common.{map}
 use Rattle.std.specs.List.{flat_map}
 use Rattle.plcx_meaning.specs.Tree.{Local, Temp, Plain}
 use Rattle.plcx_meaning.specs.Templates.{block, list_text, element_memories, element_wires}
