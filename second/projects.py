@@ -908,24 +908,22 @@ class Generator:
             self.lead(p, h.wires[-1], ['0', '1', '2'])
         return True
 
-    def bad_lone(self):
-        """A lone pin gets any source, or a literal."""
-        found = self.pick(lambda p, e: [i for i in e.ins if i.cls == 'lone' and i.wires])
+    def one_source(self, is_so, texts):
+        """A wired input that is so gets one source: a literal with one of the texts for its POU, or any."""
+        found = self.pick(lambda p, e: [i for i in e.ins if i.wires and is_so(i)])
         if not found:
             return False
         p, i = found
-        i.wires[:] = i.wires[:1]
-        any_source = p.sources and self.chance(0.5)
-        self.lead(p, i.wires[0], None if any_source else ['1', '0', '2147483647', '2147483648', '-2147483649', 'TRUE', 'WORD#1'])
+        i.wires[:] = [self.lead(p, i.wires[0], texts(p))]
         return True
 
+    def bad_lone(self):
+        """A lone pin gets any source, or a literal."""
+        literals = ['1', '0', '2147483647', '2147483648', '-2147483649', 'TRUE', 'WORD#1']
+        return self.one_source(lambda i: i.cls == 'lone', lambda p: None if p.sources and self.chance(0.5) else literals)
+
     def bad_time_literal(self):
-        found = self.pick(lambda p, e: [i for i in e.ins if i.ty == 'TIME' and i.wires])
-        if not found:
-            return False
-        p, i = found
-        i.wires[:] = [self.lead(p, E(), ['0', '1', '500'])]
-        return True
+        return self.one_source(lambda i: i.ty == 'TIME', lambda p: ['0', '1', '500'])
 
     def bad_rail(self):
         """A right rail gets any source."""

@@ -3,4 +3,3 @@ pub mod Standing
 mod Stands
 pub mod Remembered
 pub mod Suited
-pub mod Layouts

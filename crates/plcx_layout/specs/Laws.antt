@@ -3,7 +3,6 @@ use Rattle.std.specs.Prelude.{◌≡◌, ◌<◌, ◌^◌, ℕ, List, [], Some, 
 use Rattle.plcx_meaning.specs.Evaluate.{scope_of}
 use Rattle.plcx_types.specs.Lists.{Each}
 use Rattle.plcx_meaning.specs.Layout.{IsLayout, layout}
-use Rattle.plcx_meaning.specs.Layout.{Leaf as Meant}
 use Rattle.plcx_model.specs.declared.plan.Links.{Links}
 use Rattle.plcx_model.specs.declared.plan.Plan.{Plan}
 use Rattle.plcx_model.specs.declared.plan.Types.{Types}
@@ -27,8 +26,3 @@ abbrev pub LeavesStand : Type 0
 LeavesStand = (project : Project) (links : Links) (types : Types) (plan : Plan) → IsChecked project links types plan → (i : ℕ) (p : Pou) → slice_get project.pous i ≡ Some p
     → (ls : List Leaf) → all_meant ls ≡ program_leaves project.pous p
     → Each HasName ls × IsLayout (all_meant ls) × Each LiesOutside ls × (length ls < 2 ^ 32)
-
--- these are the leaves of the diagram of the POU at a place
-unfoldable pub IsLayoutOf : Project → Links → Types → Plan → ℕ → List Meant → Type 0
-IsLayoutOf project links types plan i ls = (p : Pou) → slice_get project.pous i ≡ Some p
-    → ls ≡ layout (scope_of (diagrams_of project links types plan) (pou_of project.pous p (get_or links.bodies i []) (get_or types.inputs i []) (get_or plan.bodies i no_plan)))

@@ -4,11 +4,9 @@
 #![tactic(auto)]
 
 mod laws;
-mod layout;
 mod leaves;
 mod memories;
 
 pub use laws::{leaves_are_laid, leaves_stand};
-pub use layout::diagram_layout;
 pub use leaves::program_leaves;
 pub use memories::program_memories;
