@@ -3,6 +3,7 @@ use Rattle.std.specs.Prelude.{ℕ, zero, suc, ◌+◌, Bool, ◌&&◌, List, [],
 use Rattle.std.specs.List.{flat_map}
 use Rattle.std.specs.Str.{bytes_eq}
 use Rattle.plcx_types.specs.declared.ty.Ty.{Ty}
+use Rattle.plcx_types.specs.declared.ty.Ty.TheVariants as ty
 use Rattle.plcx_types.specs.Name.{in_lower_case}
 use Rattle.plcx_types.specs.TypeName.{type_named}
 use Rattle.plcx_std.specs.declared.kind.StdKind.TheVariants as kind
@@ -65,6 +66,19 @@ instance_cells inner project v = elim (user_of project v) [ Some q ↦ cells_beh
 abbrev pub cells : ℕ → Project → Pou → List Cell
 cells zero project p = []
 cells (suc n) project p = flat_map element_cells p.elements ++ flat_map (instance_cells (cells n project) project) (variables_of p.lists)
+
+-- the types of what an element remembers, in the same order
+abbrev pub element_types : DiagramElement → List Ty
+element_types e = (if has_edge e.kind then ty.Bool ∷ [] else []) ++ map (λ (p : Port). p.ty) e.fed
+
+-- the types of the memories of an instance
+abbrev pub instance_types : (Pou → List Ty) → Project → Variable → List Ty
+instance_types inner project v = elim (user_of project v) [ Some q ↦ inner q | None ↦ [] ]
+
+-- the types of the memories of a POU, in the order of its cells
+abbrev pub cell_types : ℕ → Project → Pou → List Ty
+cell_types zero project p = []
+cell_types (suc n) project p = flat_map element_types p.elements ++ flat_map (instance_types (cell_types n project) project) (variables_of p.lists)
 
 -- ---- levels
 
