@@ -13,4 +13,4 @@ pub use element::{
     Coiling, Contacting, Element, ElementKind, Enable, InOutPin, InputPin, Link, Operand, Output,
     OutputPin, Port, Source, Storing,
 };
-pub use outputs::{out_type, ports};
+pub use outputs::{has_edge, out_type, ports};

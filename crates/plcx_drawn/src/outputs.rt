@@ -1,10 +1,10 @@
 //! The outputs of an element.
 ghost use Rattle.std.specs.Prelude.{◌≡◌, map, IfOk, [], ◌∷◌, ◌++◌};
 ghost use Rattle.plcx_meaning.specs.Functions.{out_type};
-ghost use Rattle.plcx_meaning.specs.Diagram.{has_eno, eno_ports, output_ports, ports, port};
+ghost use Rattle.plcx_meaning.specs.Diagram.{has_edge, has_eno, eno_ports, output_ports, ports, port};
 ghost use Rattle.plcx_drawn.specs.Shown.{shown_enable, shown_output_pin, shown_kind, shown_port};
 
-use crate::element::{ElementKind, Enable, OutputPin, Port};
+use crate::element::{Coiling, Contacting, ElementKind, Enable, OutputPin, Port};
 use plcx_funcs::{Allowed, Class, Func, FuncPins};
 use plcx_types::{NoMemory, Ty};
 use std::alloc::Global;
@@ -98,5 +98,18 @@ pub fn ports<'a>(alloc: Global, kind: &ElementKind<'a>) -> Result<Vec<Port<'a>>,
             let all = eno_ports(alloc, enable)?;
             Ok(with_outputs(all, outputs.as_slice())?)
         }
+    }
+}
+
+/// Whether an element remembers a value at its edge.
+pub fn has_edge(kind: &ElementKind) -> bool
+    ensures { result ≡ has_edge (shown_kind kind.now) }
+{
+    match kind {
+        ElementKind::Contact { how, .. } => {
+            matches!(how, Contacting::Rising | Contacting::Falling)
+        }
+        ElementKind::Coil { how, .. } => matches!(how, Coiling::Rising | Coiling::Falling),
+        _ => false,
     }
 }

@@ -4,14 +4,13 @@ ghost use Rattle.std.specs.List.{flat_map};
 ghost use Rattle.std.specs.Option.{option_map};
 ghost use Rattle.plcx_types.specs.Lists.{Each};
 ghost use Rattle.plcx_meaning.specs.Tree.{Local, Temp, Plain};
-ghost use Rattle.plcx_meaning.specs.Diagram.{has_edge};
 ghost use Rattle.plcx_meaning.specs.Templates.{own, block, list_text, element_memories, element_wires};
 ghost use Rattle.plcx_view.specs.Declared.{spelled_type, declaration_of, class_of, mark_by, list_of, lists_of};
-ghost use Rattle.plcx_drawn.specs.Shown.{shown_kind, shown_element, shown_port};
+ghost use Rattle.plcx_drawn.specs.Shown.{shown_element, shown_port};
 ghost use Rattle.plcx_jump.specs.Named.{IsNamed, BlockIsNamed};
 ghost use Rattle.plcx_st.specs.Meant.{number_meant, decl_meant, block_meant, class_meant, mark_meant};
 
-use plcx_drawn::{Coiling, Contacting, Element, ElementKind, Port, ports};
+use plcx_drawn::{Element, Port, has_edge, ports};
 use plcx_lower::{counter_word, edge_word, fed_word, wire_word, word_like, word_named};
 use plcx_model::{ListClass, Pou, VarList, VarTy, Variable};
 use plcx_st::{Decl, Mark, Number, TextBlock, TextClass, Word};
@@ -159,19 +158,6 @@ fn own_decl(alloc: Global, name: Word, ty: Ty) -> Result<Decl, NoMemory>
         ty: word_named(alloc, ty.name().as_bytes())?,
         initial: None,
     })
-}
-
-/// Whether an element remembers a value at its edge.
-fn has_edge(kind: &ElementKind) -> bool
-    ensures { result ≡ has_edge (shown_kind kind.now) }
-{
-    match kind {
-        ElementKind::Contact { how, .. } => {
-            matches!(how, Contacting::Rising | Contacting::Falling)
-        }
-        ElementKind::Coil { how, .. } => matches!(how, Coiling::Rising | Coiling::Falling),
-        _ => false,
-    }
 }
 
 /// What an element remembers at its edge, if it has one.

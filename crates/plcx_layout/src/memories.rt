@@ -1,30 +1,16 @@
 //! What the elements of a program remember, instance by instance.
 ghost use Rattle.std.specs.Prelude.{◌≡◌, ◌++◌, IfOk};
 ghost use Rattle.std.specs.List.{flat_map};
-ghost use Rattle.plcx_meaning.specs.Diagram.{has_edge};
-ghost use Rattle.plcx_drawn.specs.Shown.{shown_kind, shown_element};
+ghost use Rattle.plcx_drawn.specs.Shown.{shown_element};
 ghost use Rattle.plcx_layout.specs.Memories.{element_memories, elements_at, all_elements, list_memories, program_memories};
 ghost use Rattle.plcx_layout.specs.Memories as specs;
 
 use crate::leaves::{lists_at, marks_of};
-use plcx_drawn::{Coiling, Contacting, Drawing, Element, ElementKind};
+use plcx_drawn::{Drawing, Element, has_edge};
 use plcx_model::{Pou, VarList, VarTy};
 use plcx_state::Memory;
 use plcx_types::{NoMemory, Ty};
 use std::alloc::Global;
-
-/// Whether an element remembers a value at its edge.
-fn has_edge(kind: &ElementKind) -> bool
-    ensures { result ≡ has_edge (shown_kind kind.now) }
-{
-    match kind {
-        ElementKind::Contact { how, .. } => {
-            matches!(how, Contacting::Rising | Contacting::Falling)
-        }
-        ElementKind::Coil { how, .. } => matches!(how, Coiling::Rising | Coiling::Falling),
-        _ => false,
-    }
-}
 
 /// What an element remembers more.
 fn with_element(
