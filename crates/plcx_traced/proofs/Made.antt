@@ -15,7 +15,7 @@ use Rattle.plcx_state.specs.Retains.{at, kept_at, number_of}
 use Rattle.plcx_state.specs.Tables.{IsPlain, HasPlainNames}
 use Rattle.plcx_scan.specs.Texts.{trace_bytes}
 use Rattle.plcx_traced.specs.Programs.{Programs}
-use Rattle.plcx_traced.specs.Files.{Begins, TellsEvents, IsTraceOf, WhyNotBegun, WhyNotFollowed}
+use Rattle.plcx_traced.specs.Files.{Begins, TellsEvents, IsTraceOf, IsWrongRow, WhyNotBegun, WhyNotFollowed}
 use Rattle.plcx_traced.specs.Runs.{Chosen, Begun, IsTraced, WhyNot, ComesTo, machine_of}
 use Rattle.plcx_traced.specs.declared.error.RunError.{RunError}
 use Rattle.plcx_traced.specs.declared.error.RunError.TheVariants.{NoProgram, RetainedRead, Line, EventsRead, Row, NoMemory}
@@ -45,6 +45,18 @@ plain_same (x ∷ xs) (y ∷ ys) e h =
     let rest : all_meant xs ≡ all_meant ys = cc in
     (subst (Each IsPlain) (names_same x y first) h.0, plain_same xs ys rest h.1)
 
+-- of the same file, where more may have failed
+pub followed_wider : (told same : Option (List ℕ)) → told ≡ same → (rose more : Type 0) → (rose → more) → (leaves : List Meant) (e : RunError) → WhyNotFollowed told rose leaves e → WhyNotFollowed same more leaves e
+followed_wider told same eq rose more w leaves (NoProgram programs) h = h
+followed_wider told same eq rose more w leaves RetainedRead h = h
+followed_wider told same eq rose more w leaves (Line line) h = h
+followed_wider told same eq rose more w leaves EventsRead h = w h
+followed_wider told same eq rose more w leaves (Row row) h = subst (λ t. IsWrongRow t leaves row) eq h
+followed_wider told same eq rose more w leaves NoMemory h = h
+
+pub trace_wider : {G : Type 0} (told same : Option (List ℕ)) → told ≡ same → (m : Machine G) (turns : ℕ) (Old New : Side G → Type 0) (text : List ℕ) → IsTraceOf told m turns Old New text → IsTraceOf same m turns Old New text
+trace_wider told same eq m turns Old New text h = subst (λ t. IsTraceOf t m turns Old New text) eq h
+
 module _ {P G : Type 0} (ps : Programs P G) (told : List ℕ → Option (List ℕ)) (r : Run) where
   -- the side has the machine of the program, and stands for its side that begins with the retained state; its leaves are those of the program
   pub record IsOpened (b : Begun told ps r) (m : Machine G) (leaves : List Leaf) (Stands : Side G → Type 0) : Type 0 where
@@ -59,17 +71,15 @@ module _ {P G : Type 0} (ps : Programs P G) (told : List ℕ → Option (List �
     stands_there : Stands (begin_side (machine_of b) (kept_at b.chosen.laid.leaves b.kept))
     stands_there = subst (λ (kept : Path → ℤ). Stands (begin_side (machine_of b) kept)) (kept_at_same leaves b.chosen.laid.leaves b.kept own) opened.stands
 
-    pub traced_is : (text : List ℕ) → Each HasPlainNames leaves → IsTraceOf (told r.events) m r.turns Stands text → IsTraced told ps r text
-    traced_is text plain t = by m opened.machine t
+    pub traced_is : (New : Side G → Type 0) (text : List ℕ) → Each HasPlainNames leaves → IsTraceOf (told r.events) m r.turns Stands New text → IsTraced told ps r text
+    traced_is New text plain t = by m opened.machine t
       where
-        by : (k : Machine G) → k ≡ machine_of b → IsTraceOf (told r.events) k r.turns Stands text → IsTraced told ps r text
+        by : (k : Machine G) → k ≡ machine_of b → IsTraceOf (told r.events) k r.turns Stands New text → IsTraced told ps r text
         by k e h =
-            let own_trace : IsTraceOf (told r.events) (machine_of b) r.turns Stands text = subst (λ (x : Machine G). IsTraceOf (told r.events) x r.turns Stands text) e h in
+            let own_trace : IsTraceOf (told r.events) (machine_of b) r.turns Stands New text = subst (λ (x : Machine G). IsTraceOf (told r.events) x r.turns Stands New text) e h in
             record {
-              begun = b;
+              course = record { begun = b; events = own_trace.events; tells = own_trace.tells };
               plain = plain_same leaves b.chosen.laid.leaves own plain;
-              events = own_trace.events;
-              tells = own_trace.tells;
               text_is = own_trace.trace (begin_side (machine_of b) (kept_at b.chosen.laid.leaves b.kept)) stands_there;
             }
 

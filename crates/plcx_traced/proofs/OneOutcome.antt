@@ -1,10 +1,11 @@
 -- A run comes to one thing, where the desk tells its files and nothing fails.
-use Rattle.std.proofs.Common.{◌≡◌, ◌≢◌, ◌<◌, ◌≤◌, ◌+◌, ◌∷◌, ◌∙◌, ℕ, List, [], length, refl, sym, ap, ap₂, subst, arith}
+use Rattle.std.proofs.Common.{◌≡◌, ◌≢◌, ◌<◌, ◌≤◌, ◌+◌, ◌∷◌, ◌∙◌, ℕ, ℤ, List, [], length, refl, sym, ap, ap₂, subst, arith}
 use Rattle.std.specs.Prelude.{Option, Some, None, Result, Ok, Err}
 use Rattle.plcx_io.specs.Told.{Tells}
 use Rattle.plcx_types.specs.Lists.{Each}
 use Rattle.plcx_types.specs.Limits.{max_file_bytes}
 use Rattle.plcx_types.specs.Value.{Value}
+use Rattle.plcx_meaning.specs.Base.{Path}
 use Rattle.plcx_meaning.specs.Layout.{IsLayout}
 use Rattle.plcx_meaning.specs.Layout.{Leaf as Meant}
 use Rattle.plcx_meaning.specs.Run.{Event}
@@ -21,7 +22,7 @@ use Rattle.plcx_scan.specs.Texts.{trace_bytes}
 use Rattle.plcx_scan.proofs.OneEvents.{events_once, wrong_same, file_not_wrong}
 use Rattle.plcx_traced.specs.Programs.{Programs, IsChosen, IsMissing}
 use Rattle.plcx_traced.specs.Files.{IsLoaded, IsLong, TellsRetained, IsWrongLine, long, wrong, TellsEvents, IsWrongRow, Begins, WhyNotBegun}
-use Rattle.plcx_traced.specs.Runs.{Chosen, Begun, IsTraced, WhyNot, ComesTo, AreTold, machine_of}
+use Rattle.plcx_traced.specs.Runs.{Chosen, Begun, IsTraced, WhyNot, ComesTo, AreTold, machine_of, kept_in}
 use Rattle.plcx_traced.specs.declared.error.RunError.{RunError}
 use Rattle.plcx_traced.specs.declared.error.RunError.TheVariants.{NoProgram, RetainedRead, Line, EventsRead, Row, NoMemory}
 use Rattle.plcx_traced.proofs.OneLines.{leaves_same, wrong_line_same, no_wrong_line, kept_same}
@@ -47,7 +48,7 @@ not_missing ps None p h k = k (ap length h)
 -- where the program is missing, a run comes to nothing else
 pub missing_alone : {P G : Type 0} (ps : Programs P G) (told : List ℕ → Option (List ℕ)) (rose : List ℕ → Type 0) (r : Run) (x : Result (List ℕ) RunError) → x ≢ Err NoMemory → ComesTo told rose ps r x → IsMissing ps r.program
     → (programs : ℕ) × (x ≡ Err (NoProgram programs))
-missing_alone ps told rose r (Ok text) ne h m = absurd (not_missing ps r.program h.begun.chosen.program h.begun.chosen.is m)
+missing_alone ps told rose r (Ok text) ne h m = absurd (not_missing ps r.program h.course.begun.chosen.program h.course.begun.chosen.is m)
 missing_alone ps told rose r (Err (NoProgram programs)) ne h m = (programs, refl)
 missing_alone ps told rose r (Err RetainedRead) ne h m = absurd (not_missing ps r.program h.0.program h.0.is m)
 missing_alone ps told rose r (Err (Line line)) ne h m = absurd (not_missing ps r.program h.0.program h.0.is m)
@@ -149,34 +150,41 @@ module _ {P G : Type 0} (ps : Programs P G) (told : List ℕ → Option (List �
 
   traced_row : (text : List ℕ) (row : ℕ) (t : IsTraced told ps r text) (b : Begun told ps r) → IsWrongRow (told r.events) (machine_of b).layout row → ⊥
   traced_row text row t b w =
-      no_row (machine_of t.begun).layout t.events row t.tells (subst (λ (p : P). IsWrongRow (told r.events) (ps.machine p).layout row) (program_same b.chosen t.begun.chosen) w)
+      no_row (machine_of t.course.begun).layout t.course.events row t.course.tells
+      (subst (λ (p : P). IsWrongRow (told r.events) (ps.machine p).layout row) (program_same b.chosen t.course.begun.chosen) w)
 
-  traced_same : (x y : List ℕ) → IsTraced told ps r x → IsTraced told ps r y → x ≡ y
-  traced_same x y h k =
-      let c = h.begun.chosen in
-      let d = k.begun.chosen in
+  -- whatever comes of the course of a run is one
+  pub course_same : {X : Type 0} (F : P → (Path → ℤ) → List Event → X) (x y : List ℕ) (h : IsTraced told ps r x) (k : IsTraced told ps r y)
+      → F h.course.begun.chosen.program (kept_in h.course.begun) h.course.events ≡ F k.course.begun.chosen.program (kept_in k.course.begun) k.course.events
+  course_same F x y h k =
+      let c = h.course.begun.chosen in
+      let d = k.course.begun.chosen in
       let program = program_same c d in
       let leaves = laid_same c d in
       let told_leaves : IsTold d.laid.leaves = record { apart = d.is_laid.layout.apart; named = d.is_laid.named; plain = k.plain } in
-      let kept = begins_same r.retain all.retained d.laid.leaves told_leaves h.begun.kept k.begun.kept (subst (λ (ls : List Leaf). Begins told ls r.retain h.begun.kept) leaves h.begun.begins) k.begun.begins in
+      let begins : Begins told d.laid.leaves r.retain h.course.begun.kept = subst (λ (ls : List Leaf). Begins told ls r.retain h.course.begun.kept) leaves h.course.begun.begins in
+      let kept = begins_same r.retain all.retained d.laid.leaves told_leaves h.course.begun.kept k.course.begun.kept begins k.course.begun.begins in
       let layout : IsLayout (ps.machine d.program).layout = subst IsLayout d.leaves_are d.is_laid.layout in
-      let events = events_same (ps.machine d.program).layout layout h.events k.events (subst (λ (p : P). TellsEvents (told r.events) (ps.machine p).layout h.events) program h.tells) k.tells in
-      h.text_is
-      ∙ ap (λ (p : P). trace_bytes (ps.machine p).layout (trace_with (ps.machine p) (kept_at c.laid.leaves h.begun.kept) r.turns h.events)) program
-      ∙ ap₂ (λ (ls : List Leaf) (ks : List (Option Value)). trace_bytes (ps.machine d.program).layout (trace_with (ps.machine d.program) (kept_at ls ks) r.turns h.events)) leaves kept
-      ∙ ap (λ (es : List Event). trace_bytes (ps.machine d.program).layout (trace_with (ps.machine d.program) (kept_at d.laid.leaves k.begun.kept) r.turns es)) events
-      ∙ sym k.text_is
+      let tells : TellsEvents (told r.events) (ps.machine d.program).layout h.course.events = subst (λ (p : P). TellsEvents (told r.events) (ps.machine p).layout h.course.events) program h.course.tells in
+      let events = events_same (ps.machine d.program).layout layout h.course.events k.course.events tells k.course.tells in
+      ap (λ (p : P). F p (kept_in h.course.begun) h.course.events) program
+      ∙ ap₂ (λ (ls : List Leaf) (ks : List (Option Value)). F d.program (kept_at ls ks) h.course.events) leaves kept
+      ∙ ap (λ (es : List Event). F d.program (kept_in k.course.begun) es) events
+
+  traced_same : (x y : List ℕ) → IsTraced told ps r x → IsTraced told ps r y → x ≡ y
+  traced_same x y h k =
+      h.text_is ∙ course_same (λ p kept es. trace_bytes (ps.machine p).layout (trace_with (ps.machine p) kept r.turns es)) x y h k ∙ sym k.text_is
 
   same : (x y : Result (List ℕ) RunError) → Seen x → Seen y → x ≡ y
   same _ _ (traces {text = x} h) (traces {text = y} k) = ap Ok (traced_same x y h k)
-  same _ _ (traces h) (misses e m) = absurd (chosen_missing h.begun.chosen m)
-  same _ _ (traces h) (refuses_line {line = n} c w) = absurd (begun_line h.begun c n w)
+  same _ _ (traces h) (misses e m) = absurd (chosen_missing h.course.begun.chosen m)
+  same _ _ (traces h) (refuses_line {line = n} c w) = absurd (begun_line h.course.begun c n w)
   same _ _ (traces {text = x} h) (refuses_row {row = n} b w) = absurd (traced_row x n h b w)
-  same _ _ (misses e m) (traces k) = absurd (chosen_missing k.begun.chosen m)
+  same _ _ (misses e m) (traces k) = absurd (chosen_missing k.course.begun.chosen m)
   same _ _ (misses e m) (misses f n) = ap (λ k. Err (NoProgram k)) (e ∙ sym f)
   same _ _ (misses e m) (refuses_line c w) = absurd (chosen_missing c m)
   same _ _ (misses e m) (refuses_row b w) = absurd (chosen_missing b.chosen m)
-  same _ _ (refuses_line {line = n} c w) (traces k) = absurd (begun_line k.begun c n w)
+  same _ _ (refuses_line {line = n} c w) (traces k) = absurd (begun_line k.course.begun c n w)
   same _ _ (refuses_line c w) (misses f m) = absurd (chosen_missing c m)
   same _ _ (refuses_line {line = m} c w) (refuses_line {line = n} d v) =
       ap (λ k. Err (Line k)) (line_same r.retain all.retained d.laid.leaves m n (subst (λ (leaves : List Leaf). WhyNotBegun told Never leaves r.retain (Line m)) (laid_same c d) w) v)

@@ -1,5 +1,5 @@
 -- The two files that a run reads: retained values and events. What the desk doesn't tell of a file is not known here either.
-use Rattle.std.specs.Prelude.{◌≡◌, ◌≤◌, ◌<◌, ◌+◌, ℕ, List, length, Option, Some, None, IfSome, ⊤}
+use Rattle.std.specs.Prelude.{◌≡◌, ◌≤◌, ◌<◌, ◌+◌, ℕ, List, length, Option, Some, None, IfSome, ◌⊎◌, ⊤}
 use Rattle.plcx_io.specs.Told.{Tells}
 use Rattle.plcx_types.specs.Limits.{max_file_bytes}
 use Rattle.plcx_types.specs.Value.{Value}
@@ -11,6 +11,7 @@ use Rattle.plcx_state.specs.Lines as lines
 use Rattle.plcx_state.specs.Lines.{StandsForRetained, file_lines}
 use Rattle.plcx_scan.specs.Files as events
 use Rattle.plcx_scan.specs.Files.{StandsForEvents, records_of}
+use Rattle.plcx_scan.specs.Sides.{BringsAll, BringsSome}
 use Rattle.plcx_scan.specs.Texts.{HasTrace}
 use Rattle.plcx_traced.specs.declared.error.RunError.{RunError}
 use Rattle.plcx_traced.specs.declared.error.RunError.TheVariants.{NoProgram, RetainedRead, Line, EventsRead, Row, NoMemory}
@@ -74,8 +75,24 @@ WhyNotFollowed told rose leaves (NoProgram programs) = ⊥
 WhyNotFollowed told rose leaves RetainedRead = ⊥
 WhyNotFollowed told rose leaves (Line line) = ⊥
 
--- the text is the trace of each of the sides over the events of a file
-pub record IsTraceOf {G : Type 0} (told : Option (List ℕ)) (m : Machine G) (turns : ℕ) (Stands : Side G → Type 0) (text : List ℕ) : Type 0 where
+-- the text is the trace of each of the old sides over the events of a file, which lead to the new ones
+pub record IsTraceOf {G : Type 0} (told : Option (List ℕ)) (m : Machine G) (turns : ℕ) (Old New : Side G → Type 0) (text : List ℕ) : Type 0 where
   pub events : List Event
   pub tells : TellsEvents told m.layout events
-  pub trace : HasTrace m turns events Stands text
+  pub trace : HasTrace m turns events Old text
+  pub brings : BringsAll m turns events Old New
+
+-- a front of the events of a file led from the old sides to the new ones
+pub record IsFrontOf {G : Type 0} (told : Option (List ℕ)) (m : Machine G) (turns : ℕ) (Old New : Side G → Type 0) : Type 0 where
+  pub events : List Event
+  pub tells : TellsEvents told m.layout events
+  pub brings : BringsSome m turns events Old New
+
+-- where there is no trace, no event came; but where memory is wanted some may have come
+abbrev pub Stops : {G : Type 0} → Option (List ℕ) → Machine G → (turns : ℕ) → (Old New : Side G → Type 0) → (same : Type 0) → RunError → Type 0
+Stops told m turns Old New same NoMemory = same ⊎ IsFrontOf told m turns Old New
+Stops told m turns Old New same (NoProgram programs) = same
+Stops told m turns Old New same RetainedRead = same
+Stops told m turns Old New same (Line line) = same
+Stops told m turns Old New same EventsRead = same
+Stops told m turns Old New same (Row row) = same

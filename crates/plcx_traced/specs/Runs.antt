@@ -1,8 +1,8 @@
 -- Runs of a program of a file: the trace that a run leaves, or why it leaves none.
-use Rattle.std.specs.Prelude.{◌≡◌, ◌≢◌, ℕ, List, Option, Some, Result, Ok, Err, length, ⊤}
+use Rattle.std.specs.Prelude.{◌≡◌, ℕ, ℤ, List, Option, Some, Result, Ok, Err, length, ⊤}
 use Rattle.plcx_types.specs.Lists.{Each}
 use Rattle.plcx_types.specs.Value.{Value}
-use Rattle.plcx_meaning.specs.Layout.{Leaf as Meant}
+use Rattle.plcx_meaning.specs.Base.{Path}
 use Rattle.plcx_meaning.specs.Run.{Machine, Event}
 use Rattle.plcx_meaning.specs.Traces.{trace_with}
 use Rattle.plcx_words.specs.Command.{Run}
@@ -33,17 +33,25 @@ pub record Begun {P G : Type 0} (told : List ℕ → Option (List ℕ)) (ps : Pr
 abbrev pub machine_of : {P G : Type 0} {told : List ℕ → Option (List ℕ)} {ps : Programs P G} {r : Run} → Begun told ps r → Machine G
 machine_of {ps = ps} b = ps.machine b.chosen.program
 
--- the trace of its program as a text, from that state over these events
-abbrev pub trace_left : {P G : Type 0} {told : List ℕ → Option (List ℕ)} {ps : Programs P G} {r : Run} → Begun told ps r → List Event → List ℕ
-trace_left {r = r} b es = trace_bytes (machine_of b).layout (trace_with (machine_of b) (kept_at b.chosen.laid.leaves b.kept) r.turns es)
-
--- The run leaves this text: the trace over the events of its file. The names of leaves are plain, so that a printed path is that of one leaf.
-pub record IsTraced {P G : Type 0} (told : List ℕ → Option (List ℕ)) (ps : Programs P G) (r : Run) (text : List ℕ) : Type 0 where
+-- and the events of its file
+pub record Course {P G : Type 0} (told : List ℕ → Option (List ℕ)) (ps : Programs P G) (r : Run) : Type 0 where
   pub begun : Begun told ps r
-  pub plain : Each HasPlainNames begun.chosen.laid.leaves
   pub events : List Event
   pub tells : TellsEvents (told r.events) (machine_of begun).layout events
-  pub text_is : text ≡ trace_left begun events
+
+-- the retained state at which it begins, by paths
+abbrev pub kept_in : {P G : Type 0} {told : List ℕ → Option (List ℕ)} {ps : Programs P G} {r : Run} → Begun told ps r → Path → ℤ
+kept_in b = kept_at b.chosen.laid.leaves b.kept
+
+-- the trace of its program as a text, from that state over these events
+abbrev pub trace_left : {P G : Type 0} {told : List ℕ → Option (List ℕ)} {ps : Programs P G} {r : Run} → Course told ps r → List ℕ
+trace_left {r = r} c = trace_bytes (machine_of c.begun).layout (trace_with (machine_of c.begun) (kept_in c.begun) r.turns c.events)
+
+-- The run leaves this text, which is its trace. The names of leaves are plain, so that a printed path is that of one leaf.
+pub record IsTraced {P G : Type 0} (told : List ℕ → Option (List ℕ)) (ps : Programs P G) (r : Run) (text : List ℕ) : Type 0 where
+  pub course : Course told ps r
+  pub plain : Each HasPlainNames course.begun.chosen.laid.leaves
+  pub text_is : text ≡ trace_left course
 
 -- Why a run leaves no trace: what comes first of a program that is missing, a retained file that can't be read or is wrong, and such a file of
 -- events; want of memory at any time.

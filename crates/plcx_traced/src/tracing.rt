@@ -3,7 +3,7 @@ ghost use Rattle.std.specs.Prelude.{◌≡◌, ◌≤◌, ℕ, List, Option, IfO
 ghost use Rattle.plcx_io.specs.Counts.{Rose};
 ghost use Rattle.plcx_types.specs.Lists.{Each};
 ghost use Rattle.plcx_state.specs.Tables.{HasPlainNames};
-ghost use Rattle.plcx_traced.specs.Files.{IsLoaded, IsTraceOf, WhyNotFollowed};
+ghost use Rattle.plcx_traced.specs.Files.{IsLoaded, IsTraceOf, WhyNotFollowed, Stops};
 
 use crate::error::RunError;
 use plcx_io::{Desk, LoadError, load};
@@ -20,10 +20,12 @@ fn trace_in<S: Side>(
 ) -> Result<Vec<u8>, RunError>
     requires { S.last side.old ≡ 0 }
     ensures ok { IfOk result (λ text. (told : Option (List ℕ)) → IsLoaded told bytes.now
-        → IsTraceOf told (S.machine side.old) turns (S.stands_for side.old) text.items) }
+        → IsTraceOf told (S.machine side.old) turns (S.stands_for side.old) (S.stands_for side.new) text.items) }
     ensures plain { OnOk result (Each HasPlainNames (S.laid side.old).leaves) }
     ensures err { IfErr result (λ e. (told : Option (List ℕ)) → IsLoaded told bytes.now
         → WhyNotFollowed told ⊥ (S.machine side.old).layout e) }
+    ensures stops { IfErr result (λ e. (told : Option (List ℕ)) → IsLoaded told bytes.now
+        → Stops told (S.machine side.old) turns (S.stands_for side.old) (S.stands_for side.new) (side.new ≡ side.old) e) }
 {
     match read_events(alloc, side.layout(), bytes) {
         Ok(events) => Ok(run_to_text(alloc, side, &events, turns)?),
@@ -42,10 +44,12 @@ pub fn traced<D: Desk, S: Side>(
 ) -> Result<Vec<u8>, RunError>
     requires { S.last side.old ≡ 0 }
     ensures ok { IfOk result (λ text.
-        IsTraceOf (D.file desk.old events.now) (S.machine side.old) turns (S.stands_for side.old) text.items) }
+        IsTraceOf (D.file desk.old events.now) (S.machine side.old) turns (S.stands_for side.old) (S.stands_for side.new) text.items) }
     ensures plain { OnOk result (Each HasPlainNames (S.laid side.old).leaves) }
     ensures err { IfErr result (WhyNotFollowed (D.file desk.old events.now)
         (Rose (D.faults desk.old events.now) (D.faults desk.new events.now)) (S.machine side.old).layout) }
+    ensures stops { IfErr result (Stops (D.file desk.old events.now) (S.machine side.old) turns
+        (S.stands_for side.old) (S.stands_for side.new) (side.new ≡ side.old)) }
     ensures files { (other : List ℕ) → D.file desk.new other ≡ D.file desk.old other }
     ensures later { (other : List ℕ) → D.faults desk.old other ≤ D.faults desk.new other }
 {
