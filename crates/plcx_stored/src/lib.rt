@@ -1,0 +1,2 @@
+//! What holds of a program's store between two scans.
+#![tactic(auto)]
