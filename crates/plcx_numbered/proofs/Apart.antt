@@ -17,7 +17,7 @@ use Rattle.plcx_numbered.specs.Agreeing.{AreApart}
 use Rattle.plcx_numbered.specs.Numbers.{Place, behind, variable_places, places, shape_of}
 use Rattle.plcx_numbered.proofs.Numbers.{apart_none, apart_cons}
 
-abbrev below : Path → List Place → List Path
+abbrev pub below : Path → List Place → List Path
 below p xs = map (λ (x : Place). x.0 ++ p) xs
 
 joined : (xs ys : List Leaf) → map (λ (l : Leaf). l.path) (xs ++ ys) ≡ map (λ (l : Leaf). l.path) xs ++ map (λ (l : Leaf). l.path) ys
@@ -32,7 +32,8 @@ below_behind : (x : List ℕ) (p : Path) (xs : List Place) → below p (behind x
 below_behind x p [] = refl
 below_behind x p (y ∷ ys) = ap₂ (λ a b. a ∷ b) (append_assoc y.0 (x ∷ []) p) (below_behind x p ys)
 
-abbrev Paths : ℕ → Scope → Type 0
+-- the leaves of a layout have the paths of the places
+abbrev pub Paths : ℕ → Scope → Type 0
 Paths n c = (names : Spelling) (vs : List Variable) → map (λ (l : Leaf). l.path) (leaves n c names vs) ≡ below (path_of names) (places n c.world vs)
 
 variable_paths : (n : ℕ) (c : Scope) → Paths n c → (names : Spelling) (v : Variable)
@@ -46,7 +47,7 @@ variable_paths n c inner names v = by_kept (is_kept v.class) (meaning c.world v.
     by_kept true (Composed vs) = inner (v.name ∷ names) vs ∙ sym (below_behind (in_lower_case v.name) (path_of names) (places n c.world vs))
     by_kept false m = refl
 
-paths_are : (n : ℕ) (c : Scope) → Paths n c
+pub paths_are : (n : ℕ) (c : Scope) → Paths n c
 paths_are zero c names vs = refl
 paths_are (suc n) c names vs = all (paths_are n c) vs
   where
