@@ -40,4 +40,4 @@ pub record IsReady (project : Project) (place : ℕ) (l : Laid) (program : Progr
   pub prepared : ∥ IsProgramOf project program ∥₁
   pub store : IsStoreOf l state.store
   pub inputs : most_inputs ≤ length state.inputs.items
-  pub frame : (body : Body) → slice_get program.bodies.items place ≡ Some body → HasFrame body frame
+  pub framed : (body : Body) → slice_get program.bodies.items place ≡ Some body → HasFrame body frame
