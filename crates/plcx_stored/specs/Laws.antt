@@ -1,5 +1,5 @@
 -- What the laws say, each of its subject.
-use Rattle.std.specs.Prelude.{◌≡◌, ℕ, ℤ, pos, false, List, [], Option, Some, map, slice_get}
+use Rattle.std.specs.Prelude.{◌≡◌, ◌<◌, ◌^◌, ℕ, pos, false, List, [], Option, Some, length, map, slice_get}
 use Rattle.std.specs.declared.result.Result.{Result}
 use Rattle.plcx_types.specs.Lists.{Each}
 use Rattle.plcx_types.specs.Value.{Value}
@@ -7,7 +7,7 @@ use Rattle.plcx_meaning.specs.Tree as tree
 use Rattle.plcx_meaning.specs.Diagram.{Pou, Project}
 use Rattle.plcx_meaning.specs.Evaluate.{Heard, DiagramState, diagram_machine}
 use Rattle.plcx_meaning.specs.Fits.{ProjectFits}
-use Rattle.plcx_meaning.specs.Layout.{Restart}
+use Rattle.plcx_meaning.specs.Layout.{variables_of, Restart}
 use Rattle.plcx_meaning.specs.Run.{Scan, Side, put_inputs}
 use Rattle.plcx_meaning.specs.Run as meant
 use Rattle.plcx_state.specs.Layouts.{Laid, IsLaid}
@@ -21,6 +21,7 @@ use Rattle.plcx_steps.specs.declared.state.Stop.{Stop}
 use Rattle.plcx_steps.specs.Numbered.{bodies_do}
 use Rattle.plcx_steps.specs.Running.{numbered, outcome, nothing}
 use Rattle.plcx_steps.specs.Sound.{levels, origin}
+use Rattle.plcx_numbered.specs.Numbers.{Place, places_of, depth, cell_types}
 use Rattle.plcx_numbered.specs.Programs.{IsProgramOf}
 use Rattle.plcx_stored.specs.LaidFor.{IsLaidFor}
 use Rattle.plcx_stored.specs.Between.{AgreesWith, with_inputs, IsScanOf}
@@ -62,13 +63,22 @@ StoreShows =
 -- are left.
 abbrev pub ScansAreStored : {M : Type 0} → (M → Heard → M) → Type 0
 ScansAreStored {M} tell =
-    (project : Project) (program : Program) → ProjectFits project → IsProgramOf project program
+    (project : Project) (program : Program) → ∥ ProjectFits project ∥₁ → ∥ IsProgramOf project program ∥₁
     → (k : ℕ) (p : Pou) → slice_get project k ≡ Some p → p.kind ≡ tree.Program
     → (time : ℕ) (inputs : List meant.Input) (g : Side DiagramState) → g.halted ≡ false
     → (old new : State) → AgreesWith project p (record g.state { store = put_inputs inputs g.state.store }) old.store
     → (result : Result (Unit {0}) Stop) (before behind : M)
     → outcome result nothing (numbered new behind) ≡ bodies_do levels tell program (pos time) k origin [] (numbered old before)
     → IsScanOf project p old.left (Scan time inputs) g tell result new.store before behind
+
+-- The values and memories of a store have the types of the program's leaves and memories, as many as its layout has, which are fewer than 2^32.
+abbrev pub StoreIsTyped : Type 0
+StoreIsTyped =
+    (project : Project) (p : Pou) (l : Laid) → IsLaidFor project p l → IsLaid l → (s : Stored) → IsStored s → IsStoreOf l s
+    → (map (λ (v : Value). v.ty) s.values ≡ map (λ (x : Place). x.1) (places_of project (variables_of p.lists)))
+    × (map (λ (v : Value). v.ty) s.memories ≡ cell_types depth project p)
+    × (length l.leaves ≡ length s.values) × (length l.memories ≡ length s.memories)
+    × (length s.values < 2 ^ 32) × (length s.memories < 2 ^ 32)
 
 -- a layout is laid for a program, and a store agrees, in one way alone
 abbrev pub OneAgreement : Type 0
