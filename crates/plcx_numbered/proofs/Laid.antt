@@ -8,10 +8,10 @@ use Rattle.plcx_meaning.specs.Diagram.{Pou, Project}
 use Rattle.plcx_meaning.specs.Evaluate.{scope_of}
 use Rattle.plcx_numbered.specs.Numbers.{Place, behind, variable_places, places, places_of, shape_of}
 
-abbrev place_of : Leaf → Place
+abbrev pub place_of : Leaf → Place
 place_of l = (l.path, l.ty)
 
-abbrev below : Path → List Place → List Place
+abbrev pub below : Path → List Place → List Place
 below p xs = map (λ (x : Place). (x.0 ++ p, x.1)) xs
 
 joined : (xs ys : List Leaf) → map place_of (xs ++ ys) ≡ map place_of xs ++ map place_of ys
@@ -26,7 +26,7 @@ below_behind : (x : List ℕ) (p : Path) (xs : List Place) → below p (behind x
 below_behind x p [] = refl
 below_behind x p (y ∷ ys) = ap₂ (λ q rest. (q, y.1) ∷ rest) (append_assoc y.0 (x ∷ []) p) (below_behind x p ys)
 
-abbrev Placed : ℕ → Scope → Type 0
+abbrev pub Placed : ℕ → Scope → Type 0
 Placed n c = (names : Spelling) (vs : List Variable) → map place_of (leaves n c names vs) ≡ below (path_of names) (places n c.world vs)
 
 variable_placed : (n : ℕ) (c : Scope) → Placed n c → (names : Spelling) (v : Variable)
@@ -40,7 +40,7 @@ variable_placed n c inner names v = by_kept (is_kept v.class) (meaning c.world v
     by_kept true (Composed vs) = inner (v.name ∷ names) vs ∙ sym (below_behind (in_lower_case v.name) (path_of names) (places n c.world vs))
     by_kept false m = refl
 
-placed : (n : ℕ) (c : Scope) → Placed n c
+pub placed : (n : ℕ) (c : Scope) → Placed n c
 placed zero c names vs = refl
 placed (suc n) c names vs = all (placed n c) vs
   where
