@@ -1,5 +1,5 @@
 -- The memories of a store by their numbers, and those of the diagram by their cells.
-use Rattle.std.proofs.Common.{◌≡◌, ◌≤◌, ◌∷◌, ◌∙◌, ℕ, zero, suc, ℤ, pos, Bool, true, false, List, [], Some, length, refl, sym, ap, subst, arith, if◌then◌else◌}
+use Rattle.std.proofs.Common.{◌≡◌, ◌∷◌, ◌∙◌, ℕ, zero, suc, ℤ, pos, Bool, true, false, List, [], Some, length, refl, sym, ap, arith, if◌then◌else◌}
 use Rattle.std.specs.Prelude.{slice_get, ◌&&◌}
 use Rattle.std.proofs.lemmas.Option.{same_Some}
 use Rattle.plcx_types.specs.Value.{Value}
@@ -10,7 +10,7 @@ use Rattle.plcx_state.specs.declared.layout.Memory.{Memory as Kept}
 use Rattle.plcx_state.specs.Retains.{Pairwise}
 use Rattle.plcx_state.specs.Stores.{default_for, all_defaults, memory_starts_of, is_warm, all_again}
 use Rattle.plcx_steps.specs.Numbered.{number_at}
-use Rattle.plcx_numbered.specs.Agreeing.{Cell, Holds, plain_cell}
+use Rattle.plcx_numbered.specs.Agreeing.{Cell, plain_cell}
 
 abbrev AreRetained : Scope → List Kept → List Cell → Type 0
 AreRetained c memories cells = Pairwise (λ (m : Kept) (x : Cell). m.retained ≡ is_retained c x.0) memories cells
@@ -31,7 +31,7 @@ module _ (c : Scope) (r : Restart) (m : Path → Memory → ℤ) where
       by Warm false is = ap (λ (t : Bool). if t then m k.0 k.1 else pos 0) (sym is)
       by Cold b is = refl
 
-  again_at : (memories : List Kept) (cells : List Cell) (values : List Value) → AreRetained c memories cells → length memories ≡ length values
+  pub again_at : (memories : List Kept) (cells : List Cell) (values : List Value) → AreRetained c memories cells → length memories ≡ length values
       → (i : ℕ) (k : Cell) → slice_get cells i ≡ Some (plain_cell k) → m k.0 k.1 ≡ number_at values i → restarted_memories c r m k.0 k.1 ≡ number_at (all_again (is_warm r) (memory_starts_of memories) values) i
   again_at memories [] values kept e i k at same = absurd (cc)
   again_at [] (x ∷ cells) values kept e i k at same = absurd kept

@@ -1,5 +1,5 @@
 -- What is said of layouts and stores is a proposition.
-use Rattle.std.proofs.Common.{◌≡◌, ℕ, ℤ, List, [], ◌∷◌}
+use Rattle.std.proofs.Common.{ℤ, List, [], ◌∷◌}
 use Rattle.std.proofs.Props.{props}
 use Rattle.std.specs.Coded.{×_prop, Unit-prop}
 use Rattle.plcx_types.specs.declared.ty.Ty.{Ty}

@@ -1,16 +1,15 @@
 -- A scan that is alike the diagram's, as a scan of a side.
-use Rattle.std.proofs.Common.{◌≡◌, ◌∙◌, ℕ, true, false, List, [], refl, sym, ap, subst, if◌then◌else◌}
+use Rattle.std.proofs.Common.{◌≡◌, ◌∙◌, ℕ, false, List, [], refl, sym, ap, subst, if◌then◌else◌}
 use Rattle.std.specs.List.{fold}
 use Rattle.std.specs.declared.result.Result.{Result}
 use Rattle.std.specs.declared.result.Result.TheVariants.{Ok, Err}
 use Rattle.plcx_meaning.specs.Base.{Outcome, Ended, Stopped, Stuck}
 use Rattle.plcx_meaning.specs.Diagram.{Pou, Project}
 use Rattle.plcx_meaning.specs.Evaluate.{Heard, DiagramState, scan_does, unheard, diagram_machine}
-use Rattle.plcx_meaning.specs.Run.{Input, Scan, Told, Halted, TheStop, told_of, Side, side_after, tells, after, put_inputs}
-use Rattle.plcx_meaning.specs.Watch.{heard_of, heard_at}
+use Rattle.plcx_meaning.specs.Run.{Input, Scan, Halted, TheStop, told_of, Side, side_after, after}
+use Rattle.plcx_meaning.specs.Watch.{heard_of}
 use Rattle.plcx_steps.specs.declared.state.State.{State}
 use Rattle.plcx_steps.specs.declared.state.Stop.{Stop}
-use Rattle.plcx_steps.specs.Numbered.{Numbered}
 use Rattle.plcx_steps.specs.Running.{numbered, outcome, nothing}
 use Rattle.plcx_numbered.specs.Agreeing.{Agree, AlikeAt, Alike, Nothing}
 use Rattle.plcx_numbered.specs.Numbers.{shape_of}

@@ -38,6 +38,6 @@ pub fn store_is_typed()
 {}
 
 /// That a layout is laid for a program, and that a store agrees, are known in one way alone.
-pub fn agreeing_is_one_thing()
+pub fn one_agreement()
     ensures { OneAgreement }
 {}

@@ -8,6 +8,6 @@
 mod laws;
 
 pub use laws::{
-    agreeing_is_one_thing, inputs_are_stored, scans_are_stored, store_is_typed, store_opens,
+    inputs_are_stored, one_agreement, scans_are_stored, store_is_typed, store_opens,
     store_restarts, store_shows,
 };

@@ -1,4 +1,4 @@
-use Rattle.std.proofs.Common.{sym, subst, List, []}
+use Rattle.std.proofs.Common.{sym, subst, []}
 use Rattle.std.proofs.Math.Logic.{∥∥₁_elim}
 use base.Stored.{Coded-set}
 use Rattle.plcx_meaning.specs.Evaluate.{scan_does}

@@ -1,4 +1,4 @@
-use Rattle.std.proofs.Common.{◌≡◌, ◌<◌, length, arith}
+use Rattle.std.proofs.Common.{arith}
 use Rattle.plcx_state.proofs.Storing.{store_long}
 use Rattle.plcx_stored.proofs.Types.{values_typed, memories_typed, memories_long}
 use Rattle.plcx_stored.proofs.laws.store_is_typed.Goals as goal

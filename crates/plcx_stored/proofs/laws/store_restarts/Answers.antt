@@ -1,4 +1,4 @@
-use Rattle.std.proofs.Common.{◌≡◌, ◌≤◌, length, refl, sym, ap, subst, arith, ◌∙◌, List}
+use Rattle.std.proofs.Common.{◌≡◌, refl, sym, subst, arith, List}
 use Rattle.plcx_meaning.specs.Evaluate.{scope_of, restarted_memories}
 use Rattle.plcx_meaning.specs.Layout as layout
 use Rattle.plcx_state.specs.declared.store.Start.{Start}
