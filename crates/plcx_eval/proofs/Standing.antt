@@ -20,11 +20,12 @@ use Rattle.plcx_scan.specs.Sides.{HasTypeOf}
 -- the program of a name is a program
 pub program_is : (name : List ℕ) (project : Project) (p : Pou) → program_named name project ≡ Some p → is_program p.kind ≡ true
 program_is name [] p h = absurd (cc)
-program_is name (q ∷ project) p h = by (is_program q.kind && bytes_eq (in_lower_case q.name) (in_lower_case name)) refl h
+program_is name (q ∷ project) p h = by (is_program q.kind && bytes_eq (in_lower_case q.name) (in_lower_case name)) refl (program_is name project p) h
   where
-    by : (b : Bool) → (is_program q.kind && bytes_eq (in_lower_case q.name) (in_lower_case name)) ≡ b → (if b then Some q else program_named name project) ≡ Some p → is_program p.kind ≡ true
-    by true is at = let same : q ≡ p = cc in subst (λ (r : Pou). is_program r.kind ≡ true) same (and_parts (is_program q.kind) (bytes_eq (in_lower_case q.name) (in_lower_case name)) is).0
-    by false is at = program_is name project p at
+    by : (b : Bool) → (is_program q.kind && bytes_eq (in_lower_case q.name) (in_lower_case name)) ≡ b → (program_named name project ≡ Some p → is_program p.kind ≡ true)
+        → (if b then Some q else program_named name project) ≡ Some p → is_program p.kind ≡ true
+    by true is rest at = let same : q ≡ p = cc in subst (λ (r : Pou). is_program r.kind ≡ true) same (and_parts (is_program q.kind) (bytes_eq (in_lower_case q.name) (in_lower_case name)) is).0
+    by false is rest at = rest at
 
 pub program_kind : (k : PouKind) → is_program k ≡ true → k ≡ Program
 program_kind Program h = refl
@@ -35,19 +36,19 @@ suits_same : (a b : Leaf) → meant a ≡ meant b → (v : Option Value) → Sui
 suits_same a b e None h = sym (ap (λ (m : Meant). m.retained && is_declared m.path) e) ∙ h
 suits_same a b e (Some v) h = (sym (ap (λ (m : Meant). m.retained && is_declared m.path) e) ∙ h.0, h.1 ∙ ap (λ (m : Meant). m.ty) e, h.2)
 
-suit_same : (as bs : List Leaf) → all_meant as ≡ all_meant bs → (kept : List (Option Value)) → Pairwise Suits as kept → Pairwise Suits bs kept
+suit_same : (ls ms : List Leaf) → all_meant ls ≡ all_meant ms → (kept : List (Option Value)) → Pairwise Suits ls kept → Pairwise Suits ms kept
 suit_same [] [] e [] h = tt
 suit_same [] [] e (v ∷ kept) h = absurd h
-suit_same [] (b ∷ bs) e kept h = absurd (cc)
-suit_same (a ∷ as) [] e kept h = absurd (cc)
-suit_same (a ∷ as) (b ∷ bs) e [] h = absurd h
-suit_same (a ∷ as) (b ∷ bs) e (v ∷ kept) h =
+suit_same [] (b ∷ ms) e kept h = absurd (cc)
+suit_same (a ∷ ls) [] e kept h = absurd (cc)
+suit_same (a ∷ ls) (b ∷ ms) e [] h = absurd h
+suit_same (a ∷ ls) (b ∷ ms) e (v ∷ kept) h =
     let first : meant a ≡ meant b = cc in
-    let rest : all_meant as ≡ all_meant bs = cc in
-    (suits_same a b first v h.0, suit_same as bs rest kept h.1)
+    let rest : all_meant ls ≡ all_meant ms = cc in
+    (suits_same a b first v h.0, suit_same ls ms rest kept h.1)
 
-pub kept_same : (as bs : List Leaf) → all_meant as ≡ all_meant bs → (kept : List (Option Value)) → IsRetainedOf as kept → IsRetainedOf bs kept
-kept_same as bs e kept h = record { suits = suit_same as bs e kept h.suits }
+pub kept_same : (ls ms : List Leaf) → all_meant ls ≡ all_meant ms → (kept : List (Option Value)) → IsRetainedOf ls kept → IsRetainedOf ms kept
+kept_same ls ms e kept h = record { suits = suit_same ls ms e kept h.suits }
 
 -- values that stay of the types that they begin with are of the types of their leaves
 pub values_typed : (leaves : List Leaf) (values : List Value) → Each BeginsTyped leaves → Pairwise StaysTyped (starts_of leaves) values → Pairwise HasTypeOf leaves values

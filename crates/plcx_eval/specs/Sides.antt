@@ -56,7 +56,7 @@ pub record OpensFor (p : Pou) (kept : List (Option Value)) (s : DiagramSide) : T
 
 -- there is a program of this name in the project, and the side is opened for it
 pub record IsOpened (project : Project) (name : List ℕ) (kept : List (Option Value)) (s : DiagramSide) : Type 0 where
-  pub project : diagrams s ≡ project
+  pub of : diagrams s ≡ project
   pub there : is_some (program_named name project) ≡ true
   pub opens : (p : Pou) → program_named name project ≡ Some p → OpensFor p kept s
   pub time : last_of s ≡ 0

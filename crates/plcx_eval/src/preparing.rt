@@ -1,7 +1,7 @@
 //! What a side takes for its scans, and what it does around them.
 ghost use Rattle.std.specs.Prelude.{◌≡◌, ◌<◌, ◌≤◌, Some, IfOk, length, slice_get};
 ghost use Rattle.plcx_types.specs.Lists.{Each};
-ghost use Rattle.plcx_state.specs.Stores.{HasValue};
+ghost use Rattle.plcx_state.specs.Stores.{IsStored};
 ghost use Rattle.plcx_steps.specs.declared.program.Body.{Body};
 ghost use Rattle.plcx_steps.specs.Sound.{most_inputs};
 ghost use Rattle.plcx_scan.specs.Sides.{told};
@@ -54,11 +54,13 @@ pub(crate) fn state_of(alloc: Global, store: Store) -> Result<State, NoMemory>
 /// Sets inputs, one after another.
 pub(crate) fn put_inputs(store: &mut Store, inputs: &[Input])
     requires { Each (Puts store.old.values) inputs.now }
-    ensures { store.new ≡ record store.old { values = with_inputs inputs.now store.old.values } }
+    ensures value { store.new ≡ record store.old { values = with_inputs inputs.now store.old.values } }
+    ensures stored { IsStored store.new }
 {
     for input in inputs {
         store.set(input.leaf, input.value);
     }
+    let _ = store.values();
 }
 
 /// How a scan came out.

@@ -3,6 +3,8 @@ ghost use Rattle.std.specs.Prelude.{◌≡◌, ◌↔◌, None, Some, IfOk, IsEr
 ghost use Rattle.plcx_types.specs.Lists.{Each};
 ghost use Rattle.plcx_meaning.specs.Diagram.{program_named};
 ghost use Rattle.plcx_meaning.specs.Diagram.{Pou as Meant};
+ghost use Rattle.plcx_state.specs.Layouts.{IsLaid};
+ghost use Rattle.plcx_state.specs.Stores.{IsStored};
 ghost use Rattle.plcx_scan.specs.Events.{IsNext, IsInput, scan_of};
 ghost use Rattle.plcx_scan.specs.Sides.{Tells, Brings};
 ghost use Rattle.plcx_scan.specs.declared.open.OpenError.TheVariants.{NoProgram};
@@ -12,14 +14,15 @@ ghost use Rattle.plcx_eval.specs.Ready.{IsReady};
 
 use crate::preparing::{Frame, frame_of, outcome_of, put_inputs, state_of};
 use plcx_check::Checked;
+use plcx_fits::checked_fits;
 use plcx_opening::{drawings, layout_at, program_place};
 use plcx_program::prepared;
-use plcx_runnable::{bodies_are_there, prepared_can_run, programs_stand, types_stay};
+use plcx_runnable::{bodies_are_there, prepared_can_run, programs_stand};
 use plcx_scan::{Input, OpenError, Outcome, Side};
 use plcx_state::{Layout, Retained, Store, print_retained};
 use plcx_steps::{Program, Silent, State, Watch, scan};
 use plcx_stored::{
-    agreeing_is_one_thing, inputs_are_stored, scans_are_stored, store_is_typed, store_opens,
+    one_agreement, inputs_are_stored, scans_are_stored, store_is_typed, store_opens,
     store_restarts, store_shows,
 };
 use plcx_types::{Ident, NoMemory, Val};
@@ -42,6 +45,15 @@ pub struct DiagramSide<'a> {
 impl<'a> DiagramSide<'a> {
     ghost use Rattle.plcx_eval.specs.Sides.{diagrams, program as program_of, machine_of, laid_of, last_of, StandsFor, Hears, IsOpened};
 
+    /// Its layout is one, and its store keeps the types that it began with.
+    fn keeps_types(&self)
+        ensures laid { IsLaid self.now.layout }
+        ensures stored { IsStored self.now.state.store }
+    {
+        let _ = self.layout.leaves();
+        let _ = self.state.store.values();
+    }
+
     /// The side of the program of a name, from a retained state.
     pub fn open(
         alloc: Global,
@@ -58,6 +70,7 @@ impl<'a> DiagramSide<'a> {
         let Some(place) = program_place(checked, program) else {
             return Err(OpenError::NoProgram);
         };
+        checked_fits();
         store_opens();
         bodies_are_there();
         let drawings = drawings(alloc, checked)?;
@@ -101,13 +114,15 @@ impl<'a> DiagramSide<'a> {
         if self.halted {
             return Outcome::Halted;
         }
+        self.keeps_types();
+        checked_fits();
+        bodies_are_there();
         prepared_can_run();
         programs_stand();
         inputs_are_stored();
         scans_are_stored::<W>();
         store_is_typed();
-        types_stay();
-        agreeing_is_one_thing();
+        one_agreement();
         put_inputs(&mut self.state.store, inputs);
         self.state.left = turns;
         let came = scan(
@@ -141,14 +156,18 @@ impl Side for DiagramSide<'_> {
     ghost last = { last_of };
 
     fn layout(&self) -> &Layout {
+        one_agreement();
         &self.layout
     }
 
     fn value(&self, leaf: u32) -> Val {
+        self.keeps_types();
         self.state.store.get(leaf)
     }
 
     fn values(&self) -> &[Val] {
+        self.keeps_types();
+        one_agreement();
         store_shows();
         self.state.store.values()
     }
@@ -158,12 +177,16 @@ impl Side for DiagramSide<'_> {
     }
 
     fn warm(&mut self) {
+        self.keeps_types();
+        one_agreement();
         store_restarts();
         self.state.store.warm();
         self.halted = false;
     }
 
     fn cold(&mut self) {
+        self.keeps_types();
+        one_agreement();
         store_restarts();
         self.state.store.cold();
         self.halted = false;

@@ -55,7 +55,7 @@ pub fn layout_at(
     place: u32,
 ) -> Result<Layout, NoMemory>
     requires drawings { map (shown_pou checked.now.project.pous) drawings.now ≡ diagrams_of checked.now.project checked.now.links checked.now.types checked.now.plan }
-    requires place { place < length checked.now.project.pous }
+    requires place { place < length (diagrams_of checked.now.project checked.now.links checked.now.types checked.now.plan) }
     ensures { IfOk result (λ l. (p : Meant) → slice_get (diagrams_of checked.now.project checked.now.links checked.now.types checked.now.plan) place ≡ Some p
         → IsLaidFor (diagrams_of checked.now.project checked.now.links checked.now.types checked.now.plan) p l) }
 {
