@@ -1,3 +1,5 @@
 pub mod Standing
 pub mod Sided
 pub mod Scanned
+pub mod Literals
+pub mod Opened

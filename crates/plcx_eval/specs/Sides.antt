@@ -50,6 +50,7 @@ Hears s turns e tell before behind = (g : Meant DiagramState) → StandsFor s g 
 
 -- the side is opened for a program of the project from a retained state
 pub record OpensFor (p : Pou) (kept : List (Option Value)) (s : DiagramSide) : Type 0 where
+  pub is : program s ≡ p
   pub machine : machine_of s ≡ diagram_machine (diagrams s) p
   pub laid : IsLaidFor (diagrams s) p (laid_of s)
   pub begins : StandsFor s (begin_side (diagram_machine (diagrams s) p) (kept_at (laid_of s).leaves kept))

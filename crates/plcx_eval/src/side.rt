@@ -75,6 +75,7 @@ impl<'a> DiagramSide<'a> {
         bodies_are_there();
         let drawings = drawings(alloc, checked)?;
         let layout = layout_at(alloc, checked, &drawings, place)?;
+        let _ = layout.leaves();
         let program = prepared(alloc, checked.project().pous(), &drawings)?;
         let store = Store::open(alloc, &layout, retained)?;
         let state = state_of(alloc, store)?;

@@ -66,16 +66,3 @@ returns-clause-heard g c = λ d h.
     (nat_abs c.args.time) (to_z w64 (of_z w64 c.args.time)) (same ∙ c.requires.time.time_is) c.args.inputs.now c.requires.inputs (record { store = c.put_inputs.new.store; left = c.args.turns; inputs = s.state.inputs }) c.scan-came.new.state
     c.put_inputs.ensures.value c.scan-came.result c.args.watch.now c.scan-came.new.watch c.scan-came.ensures.does d h in
     scan.heard
-
--- stub
-pub checked_fits-requires : goal.checked_fits-requires
-checked_fits-requires g c = ?
-
-pub bodies_are_there-requires : goal.bodies_are_there-requires
-bodies_are_there-requires g c = ?
-
-pub prepared_can_run-requires : goal.prepared_can_run-requires
-prepared_can_run-requires g c = ?
-
-pub programs_stand-requires : goal.programs_stand-requires
-programs_stand-requires g c = ?
