@@ -3,3 +3,5 @@ pub mod Sided
 pub mod Scanned
 pub mod Literals
 pub mod Opened
+pub mod Hearing
+pub mod Listened

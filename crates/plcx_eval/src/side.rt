@@ -1,6 +1,8 @@
 //! The side of a diagram: a program of a checked project between two events.
 ghost use Rattle.std.specs.Prelude.{◌≡◌, ◌↔◌, None, Some, IfOk, IsErrOf, nat_abs};
 ghost use Rattle.plcx_types.specs.Lists.{Each};
+ghost use Rattle.plcx_meaning.specs.Layout.{Warm, Cold};
+ghost use Rattle.plcx_meaning.specs.Run.{Again};
 ghost use Rattle.plcx_meaning.specs.Diagram.{program_named};
 ghost use Rattle.plcx_meaning.specs.Diagram.{Pou as Meant};
 ghost use Rattle.plcx_state.specs.Layouts.{IsLaid};
@@ -142,7 +144,7 @@ impl<'a> DiagramSide<'a> {
 
 impl Side for DiagramSide<'_> {
     ghost use Rattle.plcx_meaning.specs.Evaluate.{DiagramState};
-    ghost use Rattle.plcx_eval.specs.Sides.{machine_of, laid_of, held_of, last_of, StandsFor};
+    ghost use Rattle.plcx_eval.specs.Sides.{diagrams, program as program_of, machine_of, laid_of, held_of, last_of, StandsFor};
 
     ghost State = { DiagramState };
 
@@ -177,7 +179,14 @@ impl Side for DiagramSide<'_> {
         self.scan_watched(time, inputs, turns, &mut Silent)
     }
 
-    fn warm(&mut self) {
+    fn warm(&mut self)
+        ensures meaning { Brings (machine_of self.old) 0 (Again Warm) (StandsFor self.old) (StandsFor self.new) }
+        ensures project { diagrams self.new ≡ diagrams self.old }
+        ensures program { program_of self.new ≡ program_of self.old }
+        ensures machine { machine_of self.new ≡ machine_of self.old }
+        ensures laid { laid_of self.new ≡ laid_of self.old }
+        ensures time { last_of self.new ≡ last_of self.old }
+    {
         self.keeps_types();
         one_agreement();
         store_restarts();
@@ -185,7 +194,14 @@ impl Side for DiagramSide<'_> {
         self.halted = false;
     }
 
-    fn cold(&mut self) {
+    fn cold(&mut self)
+        ensures meaning { Brings (machine_of self.old) 0 (Again Cold) (StandsFor self.old) (StandsFor self.new) }
+        ensures project { diagrams self.new ≡ diagrams self.old }
+        ensures program { program_of self.new ≡ program_of self.old }
+        ensures machine { machine_of self.new ≡ machine_of self.old }
+        ensures laid { laid_of self.new ≡ laid_of self.old }
+        ensures time { last_of self.new ≡ last_of self.old }
+    {
         self.keeps_types();
         one_agreement();
         store_restarts();
