@@ -6,6 +6,8 @@ import shutil
 import subprocess
 import sys
 
+TOP = os.path.dirname(os.path.dirname(os.path.realpath(__file__)))
+
 
 def called(words, statuses=(0,)):
     """The output and the error line of a call, which has to end with one of the statuses."""
@@ -13,6 +15,14 @@ def called(words, statuses=(0,)):
     if done.returncode not in statuses:
         sys.exit('%s: status %d: %s' % (' '.join(words), done.returncode, done.stderr.decode(errors='replace').strip()))
     return done.stdout, done.stderr
+
+
+def plcx(named):
+    """The program that is named, else that of this repository, which its script builds where it is missing or old."""
+    if named is None:
+        called([os.path.join(TOP, 'plcx'), 'compile', os.path.join(TOP, 'examples', 'one-wire.xml')])
+        named = os.path.join(TOP, 'crates', 'plcx', 'out', 'plcx')
+    return os.path.abspath(named)
 
 
 def seconds(words, times):
@@ -32,4 +42,5 @@ def instructions(words):
         sys.exit('there is no valgrind')
     counted = ['valgrind', '--tool=callgrind', '--callgrind-out-file=' + os.devnull]
     done = subprocess.run(counted + words, stdin=subprocess.DEVNULL, stdout=subprocess.DEVNULL, stderr=subprocess.PIPE)
-    return int(re.search(rb'Collected : (\d+)', done.stderr).group(1))
+    count = re.search(rb'Collected : (\d+)', done.stderr)
+    return int(count.group(1)) if count else sys.exit('no instructions are counted of ' + words[0])
