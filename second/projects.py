@@ -18,6 +18,8 @@ NAMES = ['A', 'b', 'Go', 'Stop', 'X1', 'y_2', 'Level', 'Sum', 'IN', 'OUT', 'Q', 
 POUS = ['Main', 'Pump', 'Step', 'Filter_1', 'Gate', 'Loop', 'Press', 'IN2', 'z']
 PLAIN_FUNCS = [f for f in FUNCS if '_TO_' not in f]
 CONVERSIONS = [f for f in FUNCS if '_TO_' in f]
+# short presets, and functions that can fault, for files that are to run
+SHORT = ['T#0ms', 'T#-5ms', 'T#1ms', 'T#5ms', 'T#10ms', 'T#10ms', 'T#15ms', 'T#20ms', 'T#30ms', 'T#1s']
 FAULTING = ['ADD', 'SUB', 'MUL', 'DIV', 'DIV', 'ABS', 'MUX', 'SHL', 'ROR']
 # how often a change is tried, 2 where it isn't listed
 WEIGHTS = {
@@ -253,11 +255,33 @@ class Generator:
             kinds = ['function'] * 5 + ['outVariable'] * 3 + ['connector'] + ['jump'] + ['return', 'comment', 'vendorElement', 'label', 'inVariable']
             kinds += ['block'] * (4 if instances else 0) + (['contact'] * 4 + ['coil'] * 3 + ['rightPowerRail'] if p.ladder else [])
             late.append(getattr(self, 'make_' + r.choice(kinds))(p, instances))
+        if self.to_run and p.kind == 'program' and self.chance(0.6):
+            self.direct(p)
         for f in late:
             if f:
                 f()
         if self.chance(0.3):
             r.shuffle(p.elements)
+
+    def direct(self, p):
+        """A standard block that the program's own variables set and show, with small presets."""
+        r, kind = self.r, self.r.choice(list(STANDARD))
+        l = E(cls='localVars', constant=False, retain=self.chance(0.3), vars=[E(name='Direct', ty=None, block=kind)])
+        p.lists.append(l)
+        e = self.new(p, 'block', type=kind, instance='Direct')
+        ins, _, outs = self.sides(kind)
+        for k, (name, ty) in enumerate(ins + outs):
+            v, at = E(name='D%d' % k, ty=ty, block=None), pin(name, ty, 'in')
+            if k >= len(ins):
+                e.outs.append(at)
+                to = self.new(p, 'outVariable', text=v.name)
+                to.wires.append(E(to=e, formal=name))
+                p.sources.append((e, name, ty))
+            else:
+                e.ins.append(at)
+                text = v.name if ty == 'BOOL' or self.chance(0.1) else r.choice(SHORT) if ty == 'TIME' else r.choice(['-1', '0', '1', '1', '2', '3'])
+                at.wires.append(E(to=self.new(p, 'inVariable', text=text), formal=''))
+            l.vars.append(v)
 
     def make_comment(self, p, _):
         self.new(p, 'comment')
