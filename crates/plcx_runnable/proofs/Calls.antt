@@ -1,10 +1,9 @@
 -- The steps of a call.
-use Rattle.std.proofs.Common.{◌≡◌, ℕ, zero, suc, ◌+◌, ◌<◌, ◌≤◌, Bool, true, false, List, [], ◌∷◌, ◌++◌, length, map, Option, Some, None, refl, sym, ap, ap₂, ◌∙◌, subst, arith}
+use Rattle.std.proofs.Common.{◌≡◌, ℕ, suc, ◌+◌, ◌≤◌, Bool, true, false, List, [], ◌∷◌, ◌++◌, length, map, Option, Some, None, refl, sym, ap, ap₂, ◌∙◌, subst, arith}
 use Rattle.std.specs.Prelude.{slice_get, slice_range, unwrap_or, codes, if◌then◌else◌}
 use Rattle.std.specs.List.{flat_map, Contains}
 use Rattle.std.proofs.lemmas.List.{length-map}
 use Rattle.std.proofs.lemmas.Option.{same_Some}
-use Rattle.plcx_types.specs.declared.ty.Ty.{Ty}
 use Rattle.plcx_types.specs.declared.ty.Ty.TheVariants as ty
 use Rattle.plcx_types.specs.Name.{in_lower_case}
 use Rattle.plcx_types.specs.Lists.{Each}
@@ -124,7 +123,7 @@ module _ (g : Ground) (same : IsShapeOf g.body (shape g)) (done : List (ℕ × P
       inside : within ≡ us
       inside = inst.parts ∙ composed_user g.project v.ty user ∙ ap (λ o. variables_of (elim o [ Some r ↦ r.lists | None ↦ [] ])) block
 
-      k : ℕ
+      abbrev k : ℕ
       k = place_named v.ty g.project
 
       q_there : slice_get g.project k ≡ Some q
@@ -143,10 +142,10 @@ module _ (g : Ground) (same : IsShapeOf g.body (shape g)) (done : List (ℕ × P
           (subst (IsPlacedOf (shape g) ((num g).operand b.0.variable)) (sym typed) (operand_typed g.project g.fits g.pou g.pou_fits g.nests g.elements b.0.variable fit.0 fit.2))
 
       module _ (first : ℕ) (binds : StandsAt g.program.bindings.items first (map (λ name. (num g).operand (bound_variable in_outs name)) (in_out_names us))) where
-        count : ℕ
+        abbrev count : ℕ
         count = length (in_out_names us)
 
-        own : List Operand
+        abbrev own : List Operand
         own = map (λ name. (num g).operand (bound_variable in_outs name)) (in_out_names us)
 
         long : length own ≡ count
@@ -167,8 +166,7 @@ module _ (g : Ground) (same : IsShapeOf g.body (shape g)) (done : List (ℕ × P
               ∙ ap Some x.2;
           of_memories = λ i t h. instance_memories g.project g.fits g.pou g.pou_fits g.nests g.elements g.cells_apart (distinct_of g.project g.fits) key v inst.found q is_its q_nests below i t h;
           of_in_outs = λ j t h.
-              let w = mapped_from in_out_type (in_outs_of us) j t h in
-              (
+              let w = mapped_from in_out_type (in_outs_of us) j t h in (
                 (num g).operand (bound_variable in_outs (in_lower_case w.0.name)),
                 ap (λ l. slice_get l j) are ∙ mapped_at (λ name. (num g).operand (bound_variable in_outs name)) (in_out_names us) j (in_lower_case w.0.name) (mapped_at (λ (u : Variable). in_lower_case u.name) (in_outs_of us) j w.0 w.1),
                 subst (IsPlacedOf (shape g) ((num g).operand (bound_variable in_outs (in_lower_case w.0.name)))) w.2 (bound_typed j w.0 w.1),
@@ -239,12 +237,12 @@ module _ (g : Ground) (same : IsShapeOf g.body (shape g)) (done : List (ℕ × P
         callee_by o = elim o [ Some j ↦ Block j leaf | None ↦ User (place_named v.ty g.project) leaf memory (names (block_named v.ty g.project)) ]
 
         by_kind : (o : Option StdKind) → kind_named v.ty ≡ o → StandsAt g.program.bindings.items first (bindings (num g) (callee_by o) in_outs) → Each (Good g) (call_steps (callee_by o) first)
-        by_kind (Some j) e own = (standard_good j e, tt)
-        by_kind None e own =
+        by_kind (Some j) e named = (standard_good j e, tt)
+        by_kind None e named =
             let n = g.nests key v inst.found inst.composite e in
             let Q : List (List ℕ) → Type 0 = λ xs. StandsAt g.program.bindings.items first (map (λ name. (num g).operand (bound_variable in_outs name)) xs)
             → Each (Good g) (Enter (place_named v.ty g.project) leaf memory first (length xs) ∷ []) in
-            subst Q (sym (ap names n.1)) (λ b. (user_good e n.0 n.1 n.2 first b, tt)) own
+            subst Q (sym (ap names n.1)) (λ b. (user_good e n.0 n.1 n.2 first b, tt)) named
 
   -- ---- the whole of a call
   pub called_good : (instance : List ℕ) (enable : Enable) (inputs : List InputPin) (in_outs : List InOutPin) (outputs' : List OutputPin) (id first : ℕ) → CallFits (at g done) instance inputs in_outs outputs' → EnableFits (at g done) enable

@@ -1,11 +1,11 @@
 -- The steps of an element.
-use Rattle.std.proofs.Common.{◌≡◌, ℕ, ◌+◌, ◌<◌, ◌≤◌, Bool, true, false, List, [], ◌∷◌, ◌++◌, length, Some, refl, sym, ap, ◌∙◌, subst, arith, inl, inr}
-use Rattle.std.specs.Prelude.{slice_get, codes, if◌then◌else◌}
+use Rattle.std.proofs.Common.{◌≡◌, ℕ, ◌+◌, ◌≤◌, true, false, List, [], ◌∷◌, ◌++◌, length, Some, refl, ap, subst, arith, inl, inr}
+use Rattle.std.specs.Prelude.{slice_get, codes}
 use Rattle.std.specs.List.{Contains}
 use Rattle.plcx_types.specs.declared.ty.Ty.{Ty}
 use Rattle.plcx_types.specs.declared.ty.Ty.TheVariants as ty
 use Rattle.plcx_types.specs.Lists.{Each}
-use Rattle.plcx_meaning.specs.Base.{AtEdge, AtOutput}
+use Rattle.plcx_meaning.specs.Base.{AtEdge}
 use Rattle.plcx_meaning.specs.Functions.{out_type}
 use Rattle.plcx_meaning.specs.Diagram as diagram
 use Rattle.plcx_meaning.specs.Diagram.{Link, Storing, Stored, Inverted, Set, Reset, Contacting, Open, Closed, RisingContact, FallingContact, Coiling, By, RisingCoil, FallingCoil, ElementKind, Still, In, Out, Contact, Coil, Pass, Label, Jump, Return, Function, Call, eno_ports, Port, port, ports, has_edge, DiagramElement}
@@ -16,7 +16,7 @@ use Rattle.plcx_meaning.proofs.Fed.{fed_ports}
 use Rattle.plcx_steps.specs.declared.program.Operand.{Operand}
 use Rattle.plcx_steps.specs.declared.program.Source.{Source}
 use Rattle.plcx_steps.specs.declared.program.Source.TheVariants as source
-use Rattle.plcx_steps.specs.declared.program.Action.TheVariants.{Fix, Not}
+use Rattle.plcx_steps.specs.declared.program.Action.TheVariants.{Fix}
 use Rattle.plcx_steps.specs.declared.program.Step.TheVariants.{Act}
 use Rattle.plcx_steps.specs.Typed.{IsPlacedOf}
 use Rattle.plcx_numbered.specs.Prepared.{operand_of, link_steps, link_source, contact_steps, coil_steps, kind_steps, kind_arguments, kind_bindings, spares, feed_steps, tell_steps, element_steps, elements_steps, elements_arguments, elements_bindings}
@@ -95,9 +95,10 @@ module _ (g : Ground) where
     kind_good (Coil how x link) id a b h outs edge room args binds =
         let l = link_good g done known (num g).spare (first_spare (omega arith)) link h.1.0 in
         let wire = output_wire g id (port [] ty.Bool) outs.0 in
-        each_append (Good g) (link_steps (num g) (num g).spare link) _ l.0
-        (((ty.Bool, subst (Sources g (link_source (num g) (num g).spare link)) h.1.1 l.1, wire), tt),
-        coil_good how x link ((num g).operand x) ((num g).memory (AtEdge id)) ((num g).wire id []) ((num g).spare + 1) (operand_typed g.project g.fits g.pou g.pou_fits g.nests g.elements x ty.Bool h.0) edge wire (spare_at 1 (omega arith)))
+        each_append (Good g) (link_steps (num g) (num g).spare link) _ l.0 (
+          ((ty.Bool, subst (Sources g (link_source (num g) (num g).spare link)) h.1.1 l.1, wire), tt),
+          coil_good how x link ((num g).operand x) ((num g).memory (AtEdge id)) ((num g).wire id []) ((num g).spare + 1) (operand_typed g.project g.fits g.pou g.pou_fits g.nests g.elements x ty.Bool h.0) edge wire (spare_at 1 (omega arith)),
+        )
     kind_good (Pass link) id a b h outs edge room args binds = fixed_good id link link.ty h refl (output_wire g id (port [] link.ty) outs.0) room
     kind_good (Jump label link) id a b h outs edge room args binds = fixed_good id link ty.Bool h.0 h.1 (output_wire g id (port [] ty.Bool) outs.0) room
     kind_good (Return link) id a b h outs edge room args binds = fixed_good id link ty.Bool h.0 h.1 (output_wire g id (port [] ty.Bool) outs.0) room

@@ -1,5 +1,5 @@
 -- Arguments of types that a function takes fit its signature, and what it gives of them has the type of OUT.
-use Rattle.std.proofs.Common.{◌≡◌, ℕ, zero, suc, ◌+◌, ◌<◌, ◌≤◌, ℤ, pos, negsuc, Bool, true, false, List, [], ◌∷◌, map, length, drop, get_or, refl, sym, ap, ◌∙◌, subst, arith, leb-true, ltb-true, if◌then◌else◌}
+use Rattle.std.proofs.Common.{◌≡◌, ℕ, zero, suc, ◌+◌, ◌<◌, ◌≤◌, ℤ, pos, negsuc, Bool, true, false, List, [], ◌∷◌, length, refl, sym, ap, ◌∙◌, subst, arith, leb-true, ltb-true, if◌then◌else◌}
 use Rattle.std.specs.Prelude.{◌+ℤ◌, ◌-ℤ◌, ◌*ℤ◌, ◌%◌, ◌^◌, nat_lt, int_lt, int_div, unsigned_abs}
 use Rattle.std.specs.List.{fold}
 use Rattle.std.specs.declared.result.Result.{Result}
@@ -9,7 +9,6 @@ use Rattle.plcx_types.specs.declared.fault.Fault.{Fault}
 use Rattle.plcx_types.specs.declared.fault.Fault.TheVariants as fault
 use Rattle.plcx_types.specs.declared.ty.Ty.{Ty}
 use Rattle.plcx_types.specs.declared.ty.Ty.TheVariants as ty
-use Rattle.plcx_types.specs.Lists.{Each}
 use Rattle.plcx_types.specs.Value.{Value}
 use Rattle.plcx_types.proofs.TypeTable.{same_is}
 use Rattle.plcx_funcs.specs.declared.func.Func.{Func}

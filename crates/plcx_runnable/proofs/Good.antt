@@ -1,6 +1,6 @@
 -- Where a network is prepared, and what is asked of its steps: the types of their places, and the little of their numbers that doesn't follow from these.
-use Rattle.std.proofs.Common.{◌≡◌, ℕ, ◌+◌, ◌<◌, ◌≤◌, List, [], ◌∷◌, length, map, get_or, Some, refl, sym, ap, ◌∙◌, subst, arith}
-use Rattle.std.specs.Prelude.{slice_get, slice_range}
+use Rattle.std.proofs.Common.{◌≡◌, ℕ, ◌+◌, ◌<◌, ◌≤◌, List, [], ◌∷◌, length, map, get_or, Some, sym, subst, arith}
+use Rattle.std.specs.Prelude.{slice_get}
 use Rattle.std.proofs.lemmas.Option.{slice_get_within, slice_get-get_or}
 use Rattle.plcx_types.specs.declared.ty.Ty.{Ty}
 use Rattle.plcx_types.specs.declared.ty.Ty.TheVariants as ty
@@ -16,7 +16,6 @@ use Rattle.plcx_steps.specs.declared.program.Operand.{Operand}
 use Rattle.plcx_steps.specs.declared.program.Operand.TheVariants.{Leaf, InOut}
 use Rattle.plcx_steps.specs.declared.program.Source.{Source}
 use Rattle.plcx_steps.specs.declared.program.Source.TheVariants.{Constant, Wire, Memory, Variable}
-use Rattle.plcx_steps.specs.declared.program.Argument.{Argument}
 use Rattle.plcx_steps.specs.declared.program.Action.{Action}
 use Rattle.plcx_steps.specs.declared.program.Action.TheVariants.{Fix, Write, Keep, Not, And, Or, Apply, Standard}
 use Rattle.plcx_steps.specs.declared.program.Step.{Step}

@@ -1,12 +1,11 @@
 -- Sources and links, and what is stored, at their types.
-use Rattle.std.proofs.Common.{◌≡◌, ◌≢◌, ℕ, ◌+◌, ◌<◌, ◌≤◌, Bool, true, false, List, [], ◌∷◌, ◌++◌, length, map, Some, refl, sym, ap, ◌∙◌, subst, arith}
+use Rattle.std.proofs.Common.{◌≡◌, ◌≢◌, ℕ, ◌+◌, ◌<◌, ◌≤◌, Bool, true, false, List, [], ◌∷◌, length, Some, refl, sym, ap, subst}
 use Rattle.std.specs.Prelude.{slice_get}
 use Rattle.std.specs.List.{Contains}
 use Rattle.plcx_types.specs.declared.ty.Ty.{Ty}
 use Rattle.plcx_types.specs.declared.ty.Ty.TheVariants as ty
 use Rattle.plcx_types.specs.Lists.{Each}
 use Rattle.plcx_meaning.specs.Base.{AtOutput}
-use Rattle.plcx_meaning.specs.Tree as tree
 use Rattle.plcx_meaning.specs.Layout.{is_kept}
 use Rattle.plcx_meaning.specs.Diagram as diagram
 use Rattle.plcx_meaning.specs.Diagram.{Link, Storing, Stored, Inverted, Set, Reset, Port, port}
@@ -20,7 +19,7 @@ use Rattle.plcx_numbered.specs.Numbers.{cell_types, depth, pins_of, spare_wires}
 use Rattle.plcx_runnable.proofs.Memories.{fed_typed}
 use Rattle.plcx_runnable.proofs.Outputs.{outputs, spare_typed, wire_typed}
 use Rattle.plcx_runnable.proofs.Variables.{operand_typed, inner_typed}
-use Rattle.plcx_runnable.proofs.Good.{Ground, num, shape, wires, Good, Sources, Wires}
+use Rattle.plcx_runnable.proofs.Good.{Ground, num, shape, Good, Sources, Wires}
 
 module _ (g : Ground) where
   -- the wire of an output, and a spare one

@@ -1,6 +1,6 @@
 -- What stands at a place of a list that is made of another.
 use Rattle.std.proofs.Common.{◌≡◌, ℕ, zero, suc, ◌+◌, ◌-◌, ◌<◌, ◌≤◌, List, [], ◌∷◌, ◌++◌, length, map, replicate, Some, refl, sym, ap, ap₂, ◌∙◌, subst, arith}
-use Rattle.std.specs.Prelude.{slice_get, slice_range, option_map, min}
+use Rattle.std.specs.Prelude.{slice_get, option_map, min}
 use Rattle.std.specs.List.{flat_map}
 use Rattle.std.proofs.lemmas.List.{length-take, length-drop, length-replicate, get_or-replicate}
 use Rattle.std.proofs.lemmas.Option.{slice_get-map, slice_get-get_or, same_Some}
@@ -48,5 +48,5 @@ stands_within whole i part s =
 pub stands_parts : {A : Type 0} (whole : List A) (i : ℕ) (xs ys : List A) → StandsAt whole i (xs ++ ys) → StandsAt whole i xs × StandsAt whole (i + length xs) ys
 stands_parts whole i xs ys s =
     let parts = at_parts whole i xs ys s.has in
-    let front = record { begins = s.begins; has = parts.0 } in
+    let front : StandsAt whole i xs = record { begins = s.begins; has = parts.0 } in
     (front, record { begins = stands_within whole i xs front; has = parts.1 })

@@ -1,7 +1,7 @@
 -- The memories of an instance have the types of what is remembered there.
 use Rattle.std.proofs.Common.{◌≡◌, ℕ, zero, suc, ◌+◌, ◌<◌, ◌≤◌, Bool, true, false, List, [], ◌∷◌, ◌++◌, length, length-append, map, Option, Some, None, refl, sym, ap, ap₂, ◌∙◌, subst, arith}
 use Rattle.std.specs.Prelude.{slice_get, if◌then◌else◌}
-use Rattle.std.specs.List.{flat_map, sum_by, Contains}
+use Rattle.std.specs.List.{flat_map, Contains}
 use Rattle.std.specs.Str.{bytes_eq}
 use Rattle.std.proofs.lemmas.List.{length-map}
 use Rattle.std.proofs.lemmas.Option.{same_Some}
@@ -9,7 +9,6 @@ use Rattle.std.proofs.lemmas.List.Elements.{Contains-append_left, Contains-appen
 use Rattle.plcx_types.specs.declared.ty.Ty.{Ty}
 use Rattle.plcx_types.specs.declared.ty.Ty.TheVariants as ty
 use Rattle.plcx_types.specs.Name.{in_lower_case}
-use Rattle.plcx_types.specs.Lists.{Each}
 use Rattle.plcx_meaning.specs.Base.{AtEdge, AtOutput, Memory, are_distinct}
 use Rattle.plcx_meaning.specs.Layout.{Variable, variables_of, variable_named}
 use Rattle.plcx_meaning.specs.Diagram.{Port, has_edge, DiagramElement, Pou, Project}
@@ -18,8 +17,7 @@ use Rattle.plcx_meaning.proofs.Lists.{each_weaker, contains_first, contains_map,
 use Rattle.plcx_meaning.proofs.Lookups.{map_append, map_flat}
 use Rattle.plcx_meaning.proofs.ReadyUnits.{named_each}
 use Rattle.plcx_numbered.specs.Agreeing.{AreApart, Cell, plain_memory}
-use Rattle.plcx_numbered.specs.Right.{IsCell}
-use Rattle.plcx_numbered.specs.Numbers.{element_cells, element_types, cells_behind, user_of, instance_cells, instance_types, cells, cell_types, depth, inner_depth, number_of, same_cell, first_leaf, cell_count, place_of}
+use Rattle.plcx_numbered.specs.Numbers.{element_cells, element_types, cells_behind, user_of, instance_cells, instance_types, cells, cell_types, depth, inner_depth, number_of, same_cell, first_leaf, cell_count}
 use Rattle.plcx_numbered.proofs.Numbers.{place_in, there_at}
 use Rattle.plcx_numbered.proofs.Leaves.{names_of, AreDistinct, flat_same, past_front, at_front, from_first}
 use Rattle.plcx_numbered.proofs.Nested.{steady, cells_steady}
@@ -60,24 +58,6 @@ element_types_are e = map_append type_of (edge_kept e.id (has_edge e.kind)) (map
     edge : (b : Bool) → map type_of (edge_kept e.id b) ≡ (if b then ty.Bool ∷ [] else [])
     edge true = refl
     edge false = refl
-
-cells_are : (e : DiagramElement) → map cell_of (element_kept e) ≡ element_cells e
-element_cells_are e = map_append cell_of (edge_kept e.id (has_edge e.kind)) (map (fed_kept e.id) e.fed) ∙ ap₂ (λ a b. a ++ b) (edge (has_edge e.kind)) (map_map cell_of (fed_kept e.id) e.fed)
-  where
-    edge : (b : Bool) → map cell_of (edge_kept e.id b) ≡ (if b then ([], AtEdge e.id) ∷ [] else [])
-    edge true = refl
-    edge false = refl
-
-element_types_are : (e : DiagramElement) → map type_of (element_kept e) ≡ element_types e
-element_types_are e = map_append type_of (edge_kept e.id (has_edge e.kind)) (map (fed_kept e.id) e.fed) ∙ ap₂ (λ a b. a ++ b) (edge (has_edge e.kind)) (map_map type_of (fed_kept e.id) e.fed)
-  where
-    edge : (b : Bool) → map type_of (edge_kept e.id b) ≡ (if b then ty.Bool ∷ [] else [])
-    edge true = refl
-    edge false = refl
-
-flat_all : {A B : Type 0} (f g : A → List B) → ((x : A) → f x ≡ g x) → (xs : List A) → flat_map f xs ≡ flat_map g xs
-flat_all f g same [] = refl
-flat_all f g same (x ∷ xs) = ap₂ (λ a b. a ++ b) (same x) (flat_all f g same xs)
 
 cells_are : (es : List DiagramElement) → map cell_of (flat_map element_kept es) ≡ flat_map element_cells es
 cells_are es = map_flat cell_of element_kept es ∙ flat_all _ _ element_cells_are es

@@ -1,26 +1,24 @@
 -- What is prepared of a project that fits can be run.
-use Rattle.std.proofs.Common.{◌≡◌, ℕ, zero, suc, ◌+◌, ◌<◌, ◌≤◌, List, [], ◌∷◌, length, map, Some, refl, sym, ap, ◌∙◌, subst, arith}
+use Rattle.std.proofs.Common.{◌≡◌, ℕ, zero, suc, ◌<◌, ◌≤◌, List, [], ◌∷◌, length, map, Some, refl, sym, ap, ◌∙◌, subst, arith}
 use Rattle.std.specs.Prelude.{slice_get}
 use Rattle.std.specs.List.{AllZip, Contains}
 use Rattle.std.proofs.lemmas.List.{length-map}
 use Rattle.std.proofs.lemmas.Option.{same_Some, slice_get_within}
 use Rattle.plcx_types.specs.Name.{in_lower_case}
 use Rattle.plcx_types.specs.Lists.{Each}
-use Rattle.plcx_types.specs.Value.{Value}
 use Rattle.plcx_meaning.specs.Layout.{Variable, variables_of}
 use Rattle.plcx_meaning.specs.Diagram.{DiagramElement, Pou, Project}
 use Rattle.plcx_meaning.specs.Fits.{ElementsFit, PouFits, PouNests, ProjectFits}
 use Rattle.plcx_meaning.proofs.Lists.{each_at, contains_none, contains_map}
-use Rattle.plcx_steps.specs.declared.program.Step.{Step}
 use Rattle.plcx_steps.specs.declared.program.Jump.{Jump}
 use Rattle.plcx_steps.specs.declared.program.Network.{Network}
 use Rattle.plcx_steps.specs.declared.program.Body.{Body}
 use Rattle.plcx_steps.specs.declared.program.Program.{Program}
-use Rattle.plcx_steps.specs.Sound.{IsSoundNetwork, IsSoundBody, IsSound}
-use Rattle.plcx_steps.specs.Typed.{Shape, AreTypedSteps, IsTypedBody, IsTyped}
+use Rattle.plcx_steps.specs.Sound.{IsSoundBody, IsSound}
+use Rattle.plcx_steps.specs.Typed.{Shape, IsTypedBody, IsTyped}
 use Rattle.plcx_numbered.specs.Agreeing.{IsApart}
 use Rattle.plcx_numbered.specs.Right.{Plan, IsLeap, IsNetwork, IsBody, place, leaps}
-use Rattle.plcx_numbered.specs.Numbers.{Place, cells, depth, places_of, in_out_names, plan_of, plans_of}
+use Rattle.plcx_numbered.specs.Numbers.{Place, depth, places_of, plan_of, plans_of}
 use Rattle.plcx_numbered.specs.Programs.{network_wires, IsNetworkOf, IsFrameOf, IsBodyOf, IsProgramOf}
 use Rattle.plcx_numbered.proofs.Cells.{plans_apart}
 use Rattle.plcx_numbered.proofs.Numbers.{there_at}
@@ -48,7 +46,7 @@ zip_long R (x ∷ xs) (y ∷ ys) all = ap suc (zip_long R xs ys all.1)
 
 module _ (project : Project) (fits : ProjectFits project) (program : Program) (prepared : IsProgramOf project program) where
   -- a shape has as many places as its body says
-  shape_of_body : (p : Pou) (body : Body) → IsFrameOf project program p body → IsShapeOf body (types_of project p)
+  pub shape_of_body : (p : Pou) (body : Body) → IsFrameOf project program p body → IsShapeOf body (types_of project p)
   shape_of_body p body frame = record {
     leaves = frame.leaves ∙ sym (length-map (places_of project (variables_of p.lists)) (λ (x : Place). x.1));
     memories = frame.memories ∙ types_long project depth p;
@@ -112,7 +110,7 @@ module _ (project : Project) (fits : ProjectFits project) (program : Program) (p
         let n = zip_at (IsNetwork program project (plans_of project) plan) p.networks body.networks.items b.networks i network at in
         let c = place project (plans_of project) plan n.2.num n.2.pins (length network.wires.items) in
         let l = zip_at (IsLeap c) (leaps p.networks n.0) network.jumps.items n.2.jumps j leap stands in
-        let low = slice_get_within n.2.pins (n.2.num.wire l.0.1 []) _ l.2.1 in
+        let low = slice_get_within n.2.pins (n.2.num.wire l.0.1 []) (l.0.1, []) l.2.1 in
         let room = n.2.room in
         let wire = l.2.2 in
         omega arith

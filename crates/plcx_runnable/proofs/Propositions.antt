@@ -1,8 +1,8 @@
 -- That numbers are sound and places typed are propositions: what a program enters, and which types its places have, is determined.
 use mathlib.Core.HLevel.{Σ_prop_path}
-use Rattle.std.proofs.Common.{◌≡◌, ℕ, ◌+◌, ◌<◌, ◌≤◌, Bool, List, Option, Some, map, refl, sym, ap, ◌∙◌}
+use Rattle.std.proofs.Common.{◌≡◌, ℕ, ◌+◌, ◌<◌, ◌≤◌, Bool, List, Option, Some, map, sym, ap, ◌∙◌}
 use Rattle.std.specs.Prelude.{slice_get, slice_range, length}
-use Rattle.std.specs.Coded.{Coded, Coded-set, coded_ℕ, coded_bool, codes, le_prop, ×_prop, Π_prop, Unit-prop}
+use Rattle.std.specs.Coded.{Coded, Coded-set, coded_ℕ, coded_bool, codes, le_prop, ×_prop, Unit-prop}
 use Rattle.std.proofs.lemmas.Option.{same_Some}
 use Rattle.plcx_types.specs.declared.ty.Ty.{Ty}
 use Rattle.plcx_types.specs.declared.ty.Ty.TheVariants as ty

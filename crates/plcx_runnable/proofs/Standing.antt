@@ -1,11 +1,12 @@
 -- A program stands where there is room for it.
-use Rattle.std.proofs.Common.{◌≡◌, ℕ, zero, suc, ◌+◌, ◌*◌, ◌^◌, ◌<◌, ◌≤◌, List, [], ◌∷◌, ◌++◌, Bool, true, false, length, length-append, map, Option, Some, None, refl, sym, ap, ap₂, ◌∙◌, subst, zero-add, arith}
+use Rattle.std.proofs.Common.{◌≡◌, ℕ, zero, suc, ◌+◌, ◌^◌, ◌<◌, ◌≤◌, List, [], ◌∷◌, ◌++◌, Bool, true, false, length, length-append, map, Option, Some, None, refl, sym, ap, ap₂, ◌∙◌, subst, zero-add, arith}
 use Rattle.std.specs.Prelude.{slice_get, is_some, if◌then◌else◌}
 use Rattle.std.specs.List.{flat_map, sum_by, Contains}
+use Rattle.std.specs.Coded.{Coded-set, coded_ℕ, le_prop}
 use Rattle.std.proofs.lemmas.List.{length-map}
-use Rattle.std.proofs.lemmas.Option.{same_Some, slice_get-get_or, slice_get_within}
+use Rattle.std.proofs.lemmas.List.Sums.{sum_by-cons}
+use Rattle.std.proofs.lemmas.Option.{same_Some, slice_get_within}
 use Rattle.plcx_types.specs.declared.ty.Ty.{Ty}
-use Rattle.plcx_types.specs.Limits.{max_leaves, max_parts}
 use Rattle.plcx_types.specs.Name.{in_lower_case}
 use Rattle.plcx_types.specs.TypeName.{type_named}
 use Rattle.plcx_types.specs.Value.{Value}
@@ -16,45 +17,54 @@ use Rattle.plcx_meaning.specs.Tree as tree
 use Rattle.plcx_meaning.specs.Layout.{Variable, variables_of, Leaf, layout}
 use Rattle.plcx_meaning.specs.Diagram.{Port, DiagramElement, has_edge, Pou, Project, block_named}
 use Rattle.plcx_meaning.specs.Evaluate.{scope_of}
-use Rattle.plcx_meaning.specs.Fits.{variable_parts, parts, PouFits, PouNests, ProjectFits}
+use Rattle.plcx_meaning.specs.Fits.{variable_parts, parts, PouFits, ProjectFits}
 use Rattle.plcx_meaning.proofs.Lists.{each_at, contains_map}
 use Rattle.plcx_state.specs.Stores.{HasValue}
 use Rattle.plcx_steps.specs.declared.program.Body.{Body}
 use Rattle.plcx_steps.specs.declared.program.Program.{Program}
 use Rattle.plcx_steps.specs.Sound.{Stands, levels, origin}
-use Rattle.plcx_steps.specs.Typed.{SameTypes, HasTypes, IsTyped}
+use Rattle.plcx_steps.specs.Typed.{SameTypes, IsTyped}
 use Rattle.plcx_steps.specs.Running.{StandsTyped}
 use Rattle.plcx_numbered.specs.Agreeing.{Cell}
 use Rattle.plcx_numbered.specs.Right.{Plan}
-use Rattle.plcx_numbered.specs.Numbers.{Place, element_cells, cells_behind, user_of, instance_cells, cells, depth, inner_depth, level, places_of, in_out_names, plan_of, plans_of}
+use Rattle.plcx_numbered.specs.Numbers.{element_cells, cells_behind, instance_cells, cells, depth, in_out_names, plan_of, plans_of}
 use Rattle.plcx_numbered.specs.Programs.{IsBodyOf, IsProgramOf}
 use Rattle.plcx_numbered.proofs.Laid.{types_are}
 use Rattle.plcx_numbered.proofs.Numbers.{there_at}
 use Rattle.plcx_numbered.proofs.Programs.{plans_low, programs_free}
 use Rattle.plcx_runnable.specs.Shapes.{types_of}
 use Rattle.plcx_runnable.proofs.Lists.{mapped_at, mapped_from}
-use Rattle.plcx_runnable.proofs.Memories.{types_long}
-use Rattle.plcx_runnable.proofs.Programs.{body_for}
+use Rattle.plcx_runnable.proofs.Good.{IsShapeOf}
+use Rattle.plcx_runnable.proofs.Programs.{body_for, shape_of_body}
 
 -- ---- a POU's memories are few
 
+abbrev edge_cell : ℕ → Bool → List Cell
+edge_cell id b = if b then ([], AtEdge id) ∷ [] else []
+
+abbrev fed_cell : ℕ → Port → Cell
+fed_cell id o = ([], AtOutput id (in_lower_case o.pin))
+
+edge_few : (id : ℕ) (b : Bool) → length (edge_cell id b) ≤ 1
+edge_few id true = omega arith
+edge_few id false = omega arith
+
 element_few : (e : DiagramElement) → length (element_cells e) ≤ suc (length e.fed)
 element_few e =
-    let both = length-append (edge (has_edge e.kind)) (map (λ (o : Port). ([], AtOutput e.id (in_lower_case o.pin))) e.fed) in
-    let fed = length-map e.fed (λ (o : Port). ([], AtOutput e.id (in_lower_case o.pin))) in
-    let low = edge_few (has_edge e.kind) in
+    let both : length (element_cells e) ≡ length (edge_cell e.id (has_edge e.kind)) + length (map (fed_cell e.id) e.fed) = length-append (edge_cell e.id (has_edge e.kind)) (map (fed_cell e.id) e.fed) in
+    let fed : length (map (fed_cell e.id) e.fed) ≡ length e.fed = length-map e.fed (fed_cell e.id) in
+    let low = edge_few e.id (has_edge e.kind) in
     omega arith
-  where
-    edge : Bool → List Cell
-    edge b = if b then ([], AtEdge e.id) ∷ [] else []
-
-    edge_few : (b : Bool) → length (edge b) ≤ 1
-    edge_few true = omega arith
-    edge_few false = omega arith
 
 flat_few : {A B : Type 0} (f : A → List B) (n : A → ℕ) → ((x : A) → length (f x) ≤ n x) → (xs : List A) → length (flat_map f xs) ≤ sum_by n xs
 flat_few f n few [] = omega arith
-flat_few f n few (x ∷ xs) = let both = length-append (f x) (flat_map f xs) in let one = few x in let rest = flat_few f n few xs in omega arith
+flat_few f n few (x ∷ xs) =
+    let both = length-append (f x) (flat_map f xs) in
+    let one = few x in
+    let rest = flat_few f n few xs in
+    let sum : sum_by n (x ∷ xs) ≡ n x + sum_by n xs = sum_by-cons n x xs in
+    let all : length (f x ++ flat_map f xs) ≤ n x + sum_by n xs = omega arith in
+    subst (λ m. length (f x ++ flat_map f xs) ≤ m) (sym sum) all
 
 module _ (project : Project) where
   instance_few : (inner : Pou → List Cell) (n : Pou → ℕ) → ((q : Pou) → length (inner q) ≤ n q) → (v : Variable) → length (instance_cells inner project v) ≤ variable_parts n project v
@@ -65,7 +75,11 @@ module _ (project : Project) where
           ≤ (if is_some t then 0 else (if is_some k then 1 else (elim b as (λ (x : Option Pou). ℕ) [ Some q ↦ suc (n q) | None ↦ 1 ])))
       by_type (Some u) k b = omega arith
       by_type None (Some j) b = omega arith
-      by_type None None (Some q) = let long = length-map (inner q) (λ (x : Cell). (x.0 ++ in_lower_case v.name ∷ [], x.1)) in let low = few q in omega arith
+      by_type None None (Some q) =
+          let long : length (cells_behind (in_lower_case v.name) (inner q)) ≡ length (inner q) = length-map (inner q) (λ (x : Cell). (x.0 ++ in_lower_case v.name ∷ [], x.1)) in
+          let low = few q in
+          let all : length (cells_behind (in_lower_case v.name) (inner q)) ≤ suc (n q) = omega arith in
+          all
       by_type None None None = omega arith
 
   cells_few : (n : ℕ) (p : Pou) → length (cells n project p) ≤ parts n project p
@@ -99,29 +113,92 @@ types_stay xs ys same = by_places xs ys same.count (λ i t h. value_has ys i t (
 
 -- ---- a program at the origin
 
-module _ (project : Project) (fits : ProjectFits project) (program : Program) (prepared : IsProgramOf project program) (k : ℕ) (p : Pou) (body : Body) (there : slice_get project k ≡ Some p) (main : p.kind ≡ tree.Program)
-    (is : slice_get program.bodies.items k ≡ Some body) where
-  own : Contains project p
-  own = there_at project k p there
+-- what is known of the body of a program
+pub record IsMain (project : Project) (p : Pou) (body : Body) : Type 0 where
+  pub level : body.level < levels
+  pub shape : IsShapeOf body (types_of project p)
+  pub no_in_outs : body.in_outs ≡ 0
+  pub few_leaves : body.leaves < 2 ^ 32
+  pub few_memories : body.memories < 2 ^ 32
 
-  one : PouFits project p
-  one = each_at (PouFits project) project p fits.pous own
+pub main_prop : (project : Project) (p : Pou) (body : Body) → IsProp (IsMain project p body)
+main_prop project p body = hlevel (le_prop, Coded-set coded_ℕ)
 
-  planned : Contains (plans_of project) (plan_of project p)
-  planned = contains_map (plan_of project) project p own
+pub main_is : (project : Project) → ProjectFits project → (program : Program) → IsProgramOf project program → (k : ℕ) (p : Pou) (body : Body) → slice_get project k ≡ Some p → p.kind ≡ tree.Program → slice_get program.bodies.items k ≡ Some body
+    → IsMain project p body
+main_is project fits program prepared k p body there main is = record {
+  level = low_level;
+  shape = shape;
+  no_in_outs = its.frame.in_outs ∙ ap length none;
+  few_leaves = few_leaves;
+  few_memories = few_memories;
+}
+  where
+    own : Contains project p
+    own = there_at project k p there
 
-  its : IsBodyOf project program p body
-  its = body_for project fits program prepared k p body there is
+    one : PouFits project p
+    one = each_at (PouFits project) project p fits.pous own
 
-  no_in_outs : in_out_names (variables_of p.lists) ≡ []
-  no_in_outs = each_at (λ (plan : Plan). plan.pou.kind ≡ tree.Program → plan.in_outs ≡ []) (plans_of project) (plan_of project p) (programs_free project fits) planned main
+    planned : Contains (plans_of project) (plan_of project p)
+    planned = contains_map (plan_of project) project p own
 
-  few_leaves : length (types_of project p).leaves < 2 ^ 32
-  few_leaves =
-      let long = ap length (types_are project p) in
-      let leaves = length-map (layout (scope_of project p)) (λ (l : Leaf). l.ty) in
-      let low = one.leaves in
-      omega arith
+    its : IsBodyOf project program p body
+    its = body_for project fits program prepared k p body there is
 
-  few_memories : length (types_of project p).memories < 2 ^ 32
-  few_memories = let long = types_long project depth p in let low = cells_few project depth p in let most = one.parts in omega arith
+    shape : IsShapeOf body (types_of project p)
+    shape = shape_of_body project fits program prepared p body its.frame
+
+    none : in_out_names (variables_of p.lists) ≡ []
+    none = each_at (λ (plan : Plan). plan.pou.kind ≡ tree.Program → plan.in_outs ≡ []) (plans_of project) (plan_of project p) (programs_free project fits) planned main
+
+    low_level : body.level < levels
+    low_level = let low = each_at (λ (plan : Plan). plan.level < 17) (plans_of project) (plan_of project p) (plans_low project fits) planned in subst (λ n. n < levels) (sym its.frame.level) low
+
+    few_leaves : body.leaves < 2 ^ 32
+    few_leaves =
+        let long = shape.leaves ∙ ap length (sym (types_are project p)) ∙ length-map (layout (scope_of project p)) (λ (l : Leaf). l.ty) in
+        let low = one.leaves in
+        omega arith
+
+    few_memories : body.memories < 2 ^ 32
+    few_memories = let long = its.frame.memories in let low = cells_few project depth p in let most = one.parts in omega arith
+
+-- where values have the types of its leaves and memories, and wires and in-outs have room
+pub stands : (project : Project) (program : Program) (k : ℕ) (p : Pou) (body : Body) → IsMain project p body → IsTyped (map (types_of project) project) program → slice_get project k ≡ Some p → slice_get program.bodies.items k ≡ Some body
+    → (values memories : List Value) → map type_of values ≡ (types_of project p).leaves → map type_of memories ≡ (types_of project p).memories → (wires in_outs : ℕ) → body.first_wire + body.width ≤ wires → body.first_in_out ≤ in_outs
+    → Stands program levels k origin [] (length values) (length memories) wires in_outs × StandsTyped program k origin [] values memories
+stands project program k p body main typed there is values memories of_values of_memories wires in_outs frame in_out_frame = (
+  record {
+    body = body;
+    is = is;
+    level = main.level;
+    room = record {
+      leaves_fit = omega (arith, long_values);
+      memories_fit = omega (arith, long_memories);
+      few_values = subst (λ n. n < 2 ^ 32) (sym long_values) main.few_leaves;
+      few_memories = subst (λ n. n < 2 ^ 32) (sym long_memories) main.few_memories;
+      in_outs_there = sym main.no_in_outs;
+      in_outs_fit = λ j low. (let none = main.no_in_outs in absurd (omega arith));
+    };
+    frame = frame;
+    in_out_frame = in_out_frame;
+  },
+  record {
+    shapes = map (types_of project) project;
+    shape = types_of project p;
+    is = mapped_at (types_of project) project k p there;
+    typed = typed;
+    types = record {
+      of_leaves = λ i t h. subst (λ n. HasValue values n t) (sym (zero-add i)) (has_value values i t (ap (λ ts. slice_get ts i) of_values ∙ h));
+      of_memories = λ i t h. subst (λ n. HasValue memories n t) (sym (zero-add i)) (has_value memories i t (ap (λ ts. slice_get ts i) of_memories ∙ h));
+      of_in_outs = λ j t h. (let low = slice_get_within (types_of project p).in_outs j t h in let none = main.no_in_outs in let same = main.shape.in_outs in absurd (omega arith));
+    };
+  },
+)
+  where
+    long_values : length values ≡ body.leaves
+    long_values = sym (length-map values type_of) ∙ ap length of_values ∙ sym main.shape.leaves
+
+    long_memories : length memories ≡ body.memories
+    long_memories = sym (length-map memories type_of) ∙ ap length of_memories ∙ sym main.shape.memories

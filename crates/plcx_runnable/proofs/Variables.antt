@@ -9,7 +9,6 @@ use Rattle.plcx_types.specs.Name.{in_lower_case}
 use Rattle.plcx_meaning.specs.Tree as tree
 use Rattle.plcx_meaning.specs.Tree.{Class, Local, Input, Output, InOut, Temp}
 use Rattle.plcx_meaning.specs.Layout.{Variable, variables_of, variable_named, is_kept}
-use Rattle.plcx_meaning.specs.Diagram as diagram
 use Rattle.plcx_meaning.specs.Diagram.{Pou, Project, DiagramElement}
 use Rattle.plcx_meaning.specs.Evaluate.{is_in_out, world_of}
 use Rattle.plcx_meaning.specs.Fits.{HasType, IsVariable, IsInstance, PouFits, PouNests, ProjectFits}
@@ -18,7 +17,7 @@ use Rattle.plcx_steps.specs.Typed.{IsPlacedOf}
 use Rattle.plcx_numbered.specs.Numbers.{Place, places_of, number_of, in_out_names, first_leaf, leaf_count, numbering}
 use Rattle.plcx_numbered.proofs.Variables.{kept_class, own_place, inner_place}
 use Rattle.plcx_numbered.proofs.Sources.{distinct_of}
-use Rattle.plcx_runnable.specs.Shapes.{in_out_type, in_out_types, types_of}
+use Rattle.plcx_runnable.specs.Shapes.{in_out_type, types_of}
 use Rattle.plcx_runnable.proofs.Lists.{mapped_at}
 
 -- the in-outs among variables
@@ -38,8 +37,8 @@ in_out_at key (w ∷ vs) v h is = by_class (is_in_out (Some w)) refl (λ found. 
     here false e rest = ap (slice_get (w ∷ in_outs_of vs)) (let z : number_of bytes_eq (in_out_names vs) key + 1 ≡ suc (number_of bytes_eq (in_out_names vs) key) = omega arith in z) ∙ rest e
 
     other : (b : Bool) → is_in_out (Some w) ≡ false → (if b then Some w else variable_named key vs) ≡ Some v → Rest → slice_get (in_outs_of vs) (number_of bytes_eq (in_out_names vs) key) ≡ Some v
-    other true no e rest = absurd (true≢false (sym is ∙ ap is_in_out (sym e) ∙ no))
-    other false no e rest = rest e
+    other true plain e rest = absurd (true≢false (sym is ∙ ap is_in_out (sym e) ∙ plain))
+    other false plain e rest = rest e
 
     by_class : (a : Bool) → is_in_out (Some w) ≡ a → Rest
         → slice_get (if a then w ∷ in_outs_of vs else in_outs_of vs) (number_of bytes_eq (map (λ (u : Variable). in_lower_case u.name) (if a then w ∷ in_outs_of vs else in_outs_of vs)) key) ≡ Some v

@@ -1,5 +1,5 @@
 -- The types of an instance's leaves, memories and in-outs, by what is declared.
-use Rattle.std.specs.Prelude.{List, Option, Some, None, map, filter, unwrap_or}
+use Rattle.std.specs.Prelude.{List, Some, map, filter, unwrap_or}
 use Rattle.plcx_types.specs.declared.ty.Ty.{Ty}
 use Rattle.plcx_types.specs.declared.ty.Ty.TheVariants as ty
 use Rattle.plcx_types.specs.TypeName.{type_named}
