@@ -1,7 +1,8 @@
 use Rattle.std.proofs.Common.{◌≡◌, ◌<◌, List, Some, map, length, refl, sym, ap, ◌∙◌, subst, arith}
 use Rattle.std.specs.Prelude.{is_some}
-use Rattle.std.proofs.Math.Logic.{∥∥₁_elim}
+use Rattle.std.proofs.Math.Logic.{∥∥₁_elim, ∥∥₁_map}
 use Rattle.plcx_meaning.specs.Diagram as diagram
+use Rattle.plcx_meaning.specs.Fits.{ProjectFits}
 use Rattle.plcx_model.specs.declared.project.Project.{Project}
 use Rattle.plcx_state.specs.Stores.{Stored, IsStoreOf}
 use Rattle.plcx_drawn.specs.Pous.{shown_pou}
@@ -17,14 +18,19 @@ layout_at-requires-clause-place c =
     let a = c.args.checked.now in
     place_low (diagrams_of a.project a.links a.types a.plan) c.args.program.now c.in-Some.place c.in-Some.ensures
 
-pub prepared-requires : goal.prepared-requires
-prepared-requires c =
+pub prepared-requires-clause-literals : goal.prepared-requires-clause-literals
+prepared-requires-clause-literals c =
     let a = c.args.checked.now in
     let project = diagrams_of a.project a.links a.types a.plan in
     let same = drawn_same a.project.pous c.pous.result.now c.in_ok-drawings.drawings.items c.deref-2.result.now project (c.pous.ensures ∙ ap (λ (q : Project). q.pous) c.project.ensures) c.deref-2.ensures.value c.in_ok-drawings.ensures in
-    record {
-      literals = subst (Each PouHasLiterals) (sym same) (∥∥₁_elim a.checked (literals_prop project) (λ checked. project_literals project (c.checked_fits.ensures a.project a.links a.types a.plan checked)));
-    }
+    subst (Each PouHasLiterals) (sym same) (∥∥₁_elim a.checked (literals_prop project) (λ checked. project_literals project (c.checked_fits.ensures a.project a.links a.types a.plan checked)))
+
+pub prepared-requires-clause-fits : goal.prepared-requires-clause-fits
+prepared-requires-clause-fits c =
+    let a = c.args.checked.now in
+    let project = diagrams_of a.project a.links a.types a.plan in
+    let same = drawn_same a.project.pous c.pous.result.now c.in_ok-drawings.drawings.items c.deref-2.result.now project (c.pous.ensures ∙ ap (λ (q : Project). q.pous) c.project.ensures) c.deref-2.ensures.value c.in_ok-drawings.ensures in
+    ∥∥₁_map a.checked (λ checked. subst ProjectFits (sym same) (c.checked_fits.ensures a.project a.links a.types a.plan checked))
 
 pub open-requires : goal.open-requires
 open-requires c =
