@@ -46,10 +46,7 @@ ghost use Rattle.std.specs.Prelude.{◌≤◌};
 fn room(bodies: &[Body], level: usize) -> Start
     ensures { Each (HasRoom level result) bodies.now }
 {
-    let mut most = Start {
-        wire: 0,
-        in_out: 0,
-    };
+    let mut most = Start { wire: 0, in_out: 0 };
     for body in bodies {
         most = with_room(most, level, body);
     }
@@ -61,10 +58,7 @@ fn behind(start: Start, room: Start) -> Result<Start, NoMemory>
 {
     let wire = sum(start.wire, room.wire)?;
     let in_out = sum(start.in_out, room.in_out)?;
-    Ok(Start {
-        wire,
-        in_out,
-    })
+    Ok(Start { wire, in_out })
 }
 
 /// Where each level begins.
@@ -72,10 +66,7 @@ fn starts(alloc: Global, bodies: &[Body]) -> Result<Vec<Start>, NoMemory>
     ensures { IfOk result (λ starts. AreStarts bodies.now starts.items) }
 {
     let highest = highest(bodies);
-    let mut last = Start {
-        wire: 0,
-        in_out: 0,
-    };
+    let mut last = Start { wire: 0, in_out: 0 };
     let mut starts = Vec::new(alloc);
     starts.push(last)?;
     for level in 0..highest {

@@ -7,7 +7,7 @@ ghost use Rattle.plcx_bodies.specs.Made.{IsMade};
 ghost use Rattle.plcx_bodies.specs.Framed.{IsWithin};
 
 use crate::counting::greater;
-use crate::parts::{Parts, parts};
+use crate::parts::{Parts, parts_of};
 use crate::wires::with_spares;
 use plcx_drawn::Drawing;
 use plcx_prepare::{Numbers, Prepared, with_network};
@@ -46,7 +46,7 @@ pub fn network<N: Numbers>(
         wires,
         spare,
         jumps,
-    } = parts(numbers, alloc, targets, drawing.elements(), places)?;
+    } = parts_of(numbers, alloc, targets, drawing.elements(), places)?;
     let wires = with_spares(wires, spare)?;
     let Shared {
         bindings,

@@ -34,10 +34,7 @@ fn with_jump<N: Numbers>(
     let mut all = jumps;
     if let Some(target) = target {
         let wire = numbers.wire(id, b"");
-        all.push(Jump {
-            wire,
-            target,
-        })?;
+        all.push(Jump { wire, target })?;
     }
     Ok(all)
 }
@@ -85,7 +82,7 @@ fn with_place<N: Numbers>(
 }
 
 /// What the elements at these places have.
-pub(crate) fn parts<N: Numbers>(
+pub(crate) fn parts_of<N: Numbers>(
     numbers: &N,
     alloc: Global,
     targets: &Targets,
