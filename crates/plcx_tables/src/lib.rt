@@ -1,0 +1,9 @@
+//! What is declared of the POUs of a project, by tables: the numbers of their leaves, memories and in-outs by their
+//! names, and the numbers that a network uses.
+#![tactic(auto)]
+
+mod keys;
+mod names;
+
+pub use keys::Key;
+pub use names::Name;
