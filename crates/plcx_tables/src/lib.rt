@@ -4,6 +4,8 @@
 
 mod keys;
 mod names;
+mod numbered;
 
 pub use keys::Key;
 pub use names::Name;
+pub use numbered::Numbered;
