@@ -69,19 +69,19 @@ module _ {K V : Type 0} (shown : K → V) (same : V → V → Bool) (laws : IsEq
   pub none_told : (es : List (K × ℕ)) (n : ℕ) → es ≡ [] → n ≡ 0 → Tells shown same es n []
   none_told es n none zero = record { numbers = λ q. ap (lookup (λ k. same (shown k) q)) none; long = zero }
 
-  asks_one : (q : V) → Asks (λ x y. same (shown x) (shown y)) (λ k. same (shown k) q)
-  asks_one q x y is = laws.symm (shown y) q ∙ sym (laws.congr (shown x) q (shown y) is)
+  asks_one : (eq : K → K → Bool) → ((x y : K) → eq x y ≡ same (shown x) (shown y)) → (q : V) → Asks eq (λ k. same (shown k) q)
+  asks_one eq equal q x y is = laws.symm (shown y) q ∙ sym (laws.congr (shown x) q (shown y) is) ∙ sym (equal x y)
 
   seen : (q : V) (key : Option K) → has_key (λ k. same (shown k) q) key ≡ has_key (λ v. same v q) (option_map shown key)
   seen q None = refl
   seen q (Some k) = refl
 
   -- one place more
-  pub more_told : (es fs : List (K × ℕ)) (n after : ℕ) (key : Option K) → Grows (λ x y. same (shown x) (shown y)) key n es fs → after ≡ n + 1
+  pub more_told : (eq : K → K → Bool) → ((x y : K) → eq x y ≡ same (shown x) (shown y)) → (es fs : List (K × ℕ)) (n after : ℕ) (key : Option K) → Grows eq key n es fs → after ≡ n + 1
       → (places : List (Option V)) → Tells shown same es n places → Tells shown same fs after (places ++ option_map shown key ∷ [])
-  more_told es fs n after key grows is places told = record {
+  more_told eq equal es fs n after key grows is places told = record {
     numbers = λ q.
-    grows (λ k. same (shown k) q) (asks_one q)
+    grows (λ k. same (shown k) q) (asks_one eq equal q)
     ∙ ap (λ b. found_or (lookup (λ k. same (shown k) q) es) (place_if b n)) (seen q key)
     ∙ ap (λ o. found_or o (place_if (has_key (λ v. same v q) (option_map shown key)) n)) (told.numbers q)
     ∙ ap (λ m. found_or (first_place same places q) (place_if (has_key (λ v. same v q) (option_map shown key)) m)) (let l = told.long in let e : n ≡ 0 + length places = omega arith in e)

@@ -3,6 +3,7 @@
 #![tactic(auto)]
 
 mod keys;
+mod named;
 mod names;
 mod numbered;
 
