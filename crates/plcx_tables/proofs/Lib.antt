@@ -1,2 +1,4 @@
 pub mod Growing
 pub mod Equals
+pub mod Walks
+pub mod Drawn

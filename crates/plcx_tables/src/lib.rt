@@ -2,11 +2,15 @@
 //! names, and the numbers that a network uses.
 #![tactic(auto)]
 
+mod variables;
 mod keys;
 mod named;
 mod names;
 mod numbered;
+mod own;
 
+pub use variables::Declared;
 pub use keys::Key;
 pub use names::Name;
 pub use numbered::Numbered;
+pub use own::{Own, owns};

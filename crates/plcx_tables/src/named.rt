@@ -1,5 +1,5 @@
 //! Tables of names, and of what elements have numbers for.
-ghost use Rattle.std.specs.Prelude.{◌≡◌, ◌++◌, ◌∷◌, [], ℕ, List, Option, Some, IfOk, option_map};
+ghost use Rattle.std.specs.Prelude.{◌≡◌, ◌++◌, ◌∷◌, [], ℕ, List, Option, Some, IfOk, option_map, unwrap_or};
 ghost use Rattle.plcx_meaning.specs.Base.{Memory, same_memory};
 ghost use Rattle.plcx_rules.specs.Texts.{same_name};
 ghost use Rattle.plcx_tables.specs.Tables.{number_in};
@@ -30,6 +30,13 @@ pub(crate) fn number_of_name(names: &Numbered<Name>, name: &[u8]) -> Option<u32>
     names.find(&Name { text: name })
 }
 
+/// The number of a name, and that behind the last where there is none.
+pub(crate) fn place_of_name(names: &Numbered<Name>, name: &[u8]) -> u32
+    ensures { result ≡ unwrap_or (number_in text_of same_name names.now.numbers.entries name.now) names.now.count }
+{
+    number_of_name(names, name).unwrap_or(names.count)
+}
+
 /// One memory or output more.
 pub(crate) fn with_memory<'a>(
     memories: Numbered<Key<'a>>,
@@ -47,4 +54,3 @@ pub(crate) fn number_of_memory(memories: &Numbered<Key>, key: Key) -> u32
     memories.number(&key)
 }
 
-ghost use Rattle.std.specs.Prelude.{unwrap_or};
