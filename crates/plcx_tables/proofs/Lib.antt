@@ -2,3 +2,4 @@ pub mod Growing
 pub mod Equals
 pub mod Walks
 pub mod Drawn
+pub mod Listed
