@@ -3,3 +3,4 @@ pub mod Equals
 pub mod Walks
 pub mod Drawn
 pub mod Listed
+pub mod Repeating

@@ -4,13 +4,19 @@
 
 mod variables;
 mod keys;
+mod levels;
 mod named;
 mod names;
 mod numbered;
 mod own;
+mod placed;
+mod table;
 
 pub use variables::Declared;
 pub use keys::Key;
+pub use levels::firsts;
 pub use names::Name;
 pub use numbered::Numbered;
 pub use own::{Own, owns};
+pub use placed::{Placed, Table};
+pub use table::tables;
