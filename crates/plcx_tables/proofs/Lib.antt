@@ -4,3 +4,4 @@ pub mod Walks
 pub mod Drawn
 pub mod Listed
 pub mod Repeating
+pub mod Within

@@ -6,3 +6,4 @@ pub mod Owned
 pub mod Levels
 pub mod Placing
 pub mod Tabled
+pub mod Numbering
