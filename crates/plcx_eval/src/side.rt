@@ -24,7 +24,7 @@ use plcx_scan::{Input, OpenError, Outcome, Side};
 use plcx_state::{Layout, Retained, Store, print_retained};
 use plcx_steps::{Program, Silent, State, Watch, scan};
 use plcx_stored::{
-    one_agreement, inputs_are_stored, scans_are_stored, store_is_typed, store_opens,
+    inputs_are_stored, one_agreement, scans_are_stored, store_is_typed, store_opens,
     store_restarts, store_shows,
 };
 use plcx_types::{Ident, NoMemory, Val};

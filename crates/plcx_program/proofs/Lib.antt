@@ -1,0 +1,4 @@
+pub mod Zips
+pub mod Callees
+pub mod Growing
+pub mod Programs
