@@ -5,3 +5,5 @@ pub mod Drawn
 pub mod Listed
 pub mod Repeating
 pub mod Within
+pub mod Meant
+pub mod Counts
