@@ -7,3 +7,5 @@ pub mod Repeating
 pub mod Within
 pub mod Meant
 pub mod Counts
+pub mod Founds
+pub mod Keyed
