@@ -9,3 +9,4 @@ pub mod Meant
 pub mod Counts
 pub mod Founds
 pub mod Keyed
+pub mod Meaning
