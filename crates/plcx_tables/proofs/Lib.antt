@@ -5,3 +5,8 @@ pub mod Drawn
 pub mod Listed
 pub mod Repeating
 pub mod Within
+pub mod Meant
+pub mod Counts
+pub mod Founds
+pub mod Keyed
+pub mod Meaning
