@@ -70,7 +70,7 @@ static void *grown(void *list, size_t count, size_t size)
 
 static struct Text rest;    /* what is left of the file */
 static struct Text *fields; /* the fields of the last record */
-static size_t field_count;
+static size_t field_count, field_room;
 
 /* The next record: fields between commas, perhaps in double quotes; an empty line is none. It is written over itself without its quotes. */
 static bool next_record(void)
@@ -93,7 +93,8 @@ static bool next_record(void)
                 break;
             else
                 *to++ = *at;
-        fields = grown(fields, field_count, sizeof *fields);
+        if (field_count == field_room)
+            fields = grown(fields, field_room++, sizeof *fields);
         fields[field_count++] = (struct Text){from, to - from};
         if (at == end || *at != ',')
             break;

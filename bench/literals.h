@@ -25,9 +25,7 @@ static int digit(char c)
     return c >= '0' && c <= '9' ? c - '0' : c >= 'A' && c <= 'F' ? c - 'A' + 10 : c >= 'a' && c <= 'f' ? c - 'a' + 10 : 16;
 }
 
-static const wide most = (wide)(((unsigned __int128)1 << 127) - 1); /* the greatest numeral */
-
-/* Digits of a base with single `_` between them. */
+/* Digits of a base with single `_` between them; the greatest numeral is the greatest wide number. */
 static bool digits(struct Text text, int base, wide *n)
 {
     bool after_digit = false;
@@ -38,9 +36,8 @@ static bool digits(struct Text text, int base, wide *n)
             after_digit = false;
             continue;
         }
-        if (d >= base || *n > (most - d) / base)
+        if (d >= base || __builtin_mul_overflow(*n, base, n) || __builtin_add_overflow(*n, d, n))
             return false;
-        *n = *n * base + d;
         after_digit = true;
     }
     return after_digit;

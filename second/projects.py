@@ -255,23 +255,23 @@ class Generator:
             kinds = ['function'] * 5 + ['outVariable'] * 3 + ['connector'] + ['jump'] + ['return', 'comment', 'vendorElement', 'label', 'inVariable']
             kinds += ['block'] * (4 if instances else 0) + (['contact'] * 4 + ['coil'] * 3 + ['rightPowerRail'] if p.ladder else [])
             late.append(getattr(self, 'make_' + r.choice(kinds))(p, instances))
-        if self.to_run and p.kind == 'program' and self.chance(0.6):
-            self.direct(p)
+        for n in range(r.choice([0, 1, 1, 2]) if self.to_run and p.kind == 'program' else 0):
+            self.direct(p, n)
         for f in late:
             if f:
                 f()
         if self.chance(0.3):
             r.shuffle(p.elements)
 
-    def direct(self, p):
-        """A standard block that the program's own variables set and show, with small presets."""
-        r, kind = self.r, self.r.choice(list(STANDARD))
-        l = E(cls='localVars', constant=False, retain=self.chance(0.3), vars=[E(name='Direct', ty=None, block=kind)])
+    def direct(self, p, n):
+        """A standard block that the program's own variables set and show, with short presets."""
+        r, kind = self.r, self.r.choice(list(STANDARD) + ['TON', 'TOF', 'TOF', 'TP', 'TP', 'CTUD'])
+        l = E(cls='localVars', constant=False, retain=self.chance(0.3), vars=[E(name='Block%d' % n, ty=None, block=kind)])
         p.lists.append(l)
-        e = self.new(p, 'block', type=kind, instance='Direct')
+        e = self.new(p, 'block', type=kind, instance='Block%d' % n)
         ins, _, outs = self.sides(kind)
         for k, (name, ty) in enumerate(ins + outs):
-            v, at = E(name='D%d' % k, ty=ty, block=None), pin(name, ty, 'in')
+            v, at = E(name='%s_%d' % (name, n), ty=ty, block=None), pin(name, ty, 'in')
             if k >= len(ins):
                 e.outs.append(at)
                 to = self.new(p, 'outVariable', text=v.name)
