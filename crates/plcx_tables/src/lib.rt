@@ -14,7 +14,6 @@ mod table;
 
 pub use variables::Declared;
 pub use keys::Key;
-pub use levels::firsts;
 pub use names::Name;
 pub use numbered::Numbered;
 pub use own::{Own, owns};
