@@ -81,10 +81,10 @@ module _ {K V : Type 0} (shown : K → V) (same : V → V → Bool) (laws : IsEq
       → (places : List (Option V)) → Tells shown same es n places → Tells shown same fs after (places ++ option_map shown key ∷ [])
   more_told eq equal es fs n after key grows is places told = record {
     numbers = λ q.
-    grows (λ k. same (shown k) q) (asks_one eq equal q)
-    ∙ ap (λ b. found_or (lookup (λ k. same (shown k) q) es) (place_if b n)) (seen q key)
-    ∙ ap (λ o. found_or o (place_if (has_key (λ v. same v q) (option_map shown key)) n)) (told.numbers q)
-    ∙ ap (λ m. found_or (first_place same places q) (place_if (has_key (λ v. same v q) (option_map shown key)) m)) (let l = told.long in let e : n ≡ 0 + length places = omega arith in e)
-    ∙ sym (place_push (has_key (λ v. same v q)) 0 places (option_map shown key));
+        grows (λ k. same (shown k) q) (asks_one eq equal q)
+        ∙ ap (λ b. found_or (lookup (λ k. same (shown k) q) es) (place_if b n)) (seen q key)
+        ∙ ap (λ o. found_or o (place_if (has_key (λ v. same v q) (option_map shown key)) n)) (told.numbers q)
+        ∙ ap (λ m. found_or (first_place same places q) (place_if (has_key (λ v. same v q) (option_map shown key)) m)) (let l = told.long in let e : n ≡ 0 + length places = omega arith in e)
+        ∙ sym (place_push (has_key (λ v. same v q)) 0 places (option_map shown key));
     long = (let l = told.long in let e = length-append places (option_map shown key ∷ []) in omega arith);
   }

@@ -64,13 +64,7 @@ pub(crate) fn leaf_count(variable: &Declared, standard: bool, leaves: &[usize]) 
         return 1;
     }
     match variable.standard {
-        Some(kind) => {
-            if standard {
-                pins(kind).len()
-            } else {
-                0
-            }
-        }
+        Some(kind) => { if standard { pins(kind).len() } else { 0 } }
         None => match variable.block {
             None => 0,
             Some(place) => at(leaves, place),

@@ -2,7 +2,6 @@
 //! names, and the numbers that a network uses.
 #![tactic(auto)]
 
-mod variables;
 mod keys;
 mod levels;
 mod named;
@@ -11,11 +10,12 @@ mod numbered;
 mod own;
 mod placed;
 mod table;
+mod variables;
 
-pub use variables::Declared;
 pub use keys::Key;
 pub use names::Name;
 pub use numbered::Numbered;
 pub use own::{Own, owns};
 pub use placed::{Placed, Table};
 pub use table::tables;
+pub use variables::Declared;

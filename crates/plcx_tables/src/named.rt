@@ -53,4 +53,3 @@ pub(crate) fn number_of_memory(memories: &Numbered<Key>, key: Key) -> u32
 {
     memories.number(&key)
 }
-

@@ -63,10 +63,7 @@ fn variables<'a>(
 }
 
 /// The places of variables by their names.
-fn names_of<'a>(
-    alloc: Global,
-    variables: &[Declared<'a>],
-) -> Result<Numbered<Name<'a>>, NoMemory>
+fn names_of<'a>(alloc: Global, variables: &[Declared<'a>]) -> Result<Numbered<Name<'a>>, NoMemory>
     ensures { IfOk result (λ names. NamesTold names.numbers.entries names.count (map variable_name variables.now)) }
 {
     let mut names = Numbered::new(alloc);
@@ -123,10 +120,7 @@ fn with_element<'a>(
 }
 
 /// The numbers of what elements remember.
-fn memories_of<'a>(
-    alloc: Global,
-    elements: &[Element<'a>],
-) -> Result<Numbered<Key<'a>>, NoMemory>
+fn memories_of<'a>(alloc: Global, elements: &[Element<'a>]) -> Result<Numbered<Key<'a>>, NoMemory>
     ensures { IfOk result (λ memories. MemoriesTold memories.numbers.entries memories.count (places_of (remembered (map shown_element elements.now)))) }
 {
     let mut memories = Numbered::new(alloc);

@@ -36,10 +36,7 @@ pub(crate) struct Pous<'a> {
     pub(crate) blocks: Numbered<Name<'a>>,
 }
 
-fn named_pous<'a>(
-    alloc: Global,
-    drawings: &[Drawing<'a>],
-) -> Result<Numbered<Name<'a>>, NoMemory>
+fn named_pous<'a>(alloc: Global, drawings: &[Drawing<'a>]) -> Result<Numbered<Name<'a>>, NoMemory>
     ensures { IfOk result (λ names. NamesTold names.numbers.entries names.count (map pou_name drawings.now)) }
 {
     let mut names = Numbered::new(alloc);
@@ -60,10 +57,7 @@ fn block_name<'a>(pou: &'a Pou) -> Option<&'a [u8]>
 
 ghost use Rattle.std.specs.Prelude.{option_map};
 
-fn named_blocks<'a>(
-    alloc: Global,
-    drawings: &[Drawing<'a>],
-) -> Result<Numbered<Name<'a>>, NoMemory>
+fn named_blocks<'a>(alloc: Global, drawings: &[Drawing<'a>]) -> Result<Numbered<Name<'a>>, NoMemory>
     ensures { IfOk result (λ names. NamesTold names.numbers.entries names.count (map (λ d. block_name d.pou.now) drawings.now)) }
 {
     let mut names = Numbered::new(alloc);

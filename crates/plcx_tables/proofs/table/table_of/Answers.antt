@@ -8,6 +8,6 @@ invariant_of-result c =
     let own = c.args.own.now in
     record {
       within = λ i p h.
-      let low = placed_within c.args.leaves.now c.args.memories.now 0 own.memories.count 0 own.variables.items i p (ap (λ ps. slice_get ps i) (sym c.in_ok-placed.ensures) ∙ h) in
-      omega (arith, low, c.in_ok-count.ensures, c.in_ok-leaves_of.ensures);
+          let low = placed_within c.args.leaves.now c.args.memories.now 0 own.memories.count 0 own.variables.items i p (ap (λ ps. slice_get ps i) (sym c.in_ok-placed.ensures) ∙ h) in
+          omega (arith, low, c.in_ok-count.ensures, c.in_ok-leaves_of.ensures);
     }
