@@ -45,16 +45,16 @@ module _ (project : Project) where
   later key v vs l m j l' m' j' other ls ms js None h = (
     ap (λ b. if b then Some v else variable_named key vs) other ∙ h.0,
     (let a = ap (λ b. if b then 0 else leaf_count project v + first_leaf (leaf_count project) key vs) other in let s = sum_by-cons (leaf_count project) v vs in let g = h.1 in
-    let e : l + first_leaf (leaf_count project) key (v ∷ vs) ≡ l + sum_by (leaf_count project) (v ∷ vs) = omega arith in e),
+        let e : l + first_leaf (leaf_count project) key (v ∷ vs) ≡ l + sum_by (leaf_count project) (v ∷ vs) = omega arith in e),
   )
   later key v vs l m j l' m' j' other ls ms js (Some p) h = (
     h.0,
     ap (λ b. if b then Some v else variable_named key vs) other ∙ h.1,
     h.2,
     (let a = ap (λ b. if b then 0 else leaf_count project v + first_leaf (leaf_count project) key vs) other in let g = h.3 in
-    let e : l + first_leaf (leaf_count project) key (v ∷ vs) ≡ p.leaf = omega arith in e),
+        let e : l + first_leaf (leaf_count project) key (v ∷ vs) ≡ p.leaf = omega arith in e),
     (let a = ap (λ b. if b then 0 else cell_count project v + first_leaf (cell_count project) key vs) other in let g = h.4 in
-    let e : m + first_leaf (cell_count project) key (v ∷ vs) ≡ p.memory = omega arith in e),
+        let e : m + first_leaf (cell_count project) key (v ∷ vs) ≡ p.memory = omega arith in e),
     λ is. by (is_in_out (Some v)) refl (h.5 is),
   )
     where

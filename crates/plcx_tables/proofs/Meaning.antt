@@ -119,8 +119,8 @@ module _ (project : Project) (owns : List Own) (all : AreOwn project owns) (tabl
         let ds = own.variables.items in
         let ps = placed_from L M 0 own.memories.count 0 ds in
         let e : found t x ≡ find (λ (q : Placed). same_name q.variable.name.now x) ps =
-            ap₂ (λ (items : List Placed) (o : Option ℕ). option_and_then (slice_get items) o) is_placed.placed (ap (λ (w : Own). number_in text_of same_name w.names.numbers.entries x) is_placed.is_own ∙ is_own.names.numbers x)
-            ∙ find_placed L M x 0 own.memories.count 0 ds in
+        ap₂ (λ (items : List Placed) (o : Option ℕ). option_and_then (slice_get items) o) is_placed.placed (ap (λ (w : Own). number_in text_of same_name w.names.numbers.entries x) is_placed.is_own ∙ is_own.names.numbers x)
+        ∙ find_placed L M x 0 own.memories.count 0 ds in
         subst (FoundBy project 0 own.memories.count 0 (in_lower_case x) (variables_of p.lists)) (sym e)
         (found_from project L M
         (λ v. ap (λ (l : List ℕ). leaf_weight true l (told project v)) (deep_leaves_are project owns all) ∙ leaf_is project 16 v)
@@ -231,14 +231,14 @@ module _ (project : Project) (owns : List Own) (all : AreOwn project owns) (tabl
         shape leaf memory w = elim w.standard [ Some k ↦ Block k leaf | None ↦ User w.pou leaf memory (in_outs_at tables w.block) ]
 
         by_kind : (v : Variable) (o : Option StdKind) → (let c : Callee = elim o [
-              | Some k ↦ Block k (first_leaf (leaf_count project) (in_lower_case i) (variables_of p.lists))
-              | None ↦ User (place_named v.ty project) (first_leaf (leaf_count project) (in_lower_case i) (variables_of p.lists))
-                  (length (flat_map element_cells p.elements) + first_leaf (cell_count project) (in_lower_case i) (variables_of p.lists)) (in_outs_at tables (told project v).block)
-            ] in c) ≡ (elim o [
-              | Some k ↦ Block k (first_leaf (leaf_count project) (in_lower_case i) (variables_of p.lists))
-              | None ↦ User (place_named v.ty project) (first_leaf (leaf_count project) (in_lower_case i) (variables_of p.lists))
-                  (length (flat_map element_cells p.elements) + first_leaf (cell_count project) (in_lower_case i) (variables_of p.lists)) (elim (block_named v.ty project) [ Some q ↦ in_out_names (variables_of q.lists) | None ↦ [] ])
-            ])
+          | Some k ↦ Block k (first_leaf (leaf_count project) (in_lower_case i) (variables_of p.lists))
+          | None ↦ User (place_named v.ty project) (first_leaf (leaf_count project) (in_lower_case i) (variables_of p.lists))
+              (length (flat_map element_cells p.elements) + first_leaf (cell_count project) (in_lower_case i) (variables_of p.lists)) (in_outs_at tables (told project v).block)
+        ] in c) ≡ (elim o [
+          | Some k ↦ Block k (first_leaf (leaf_count project) (in_lower_case i) (variables_of p.lists))
+          | None ↦ User (place_named v.ty project) (first_leaf (leaf_count project) (in_lower_case i) (variables_of p.lists))
+              (length (flat_map element_cells p.elements) + first_leaf (cell_count project) (in_lower_case i) (variables_of p.lists)) (elim (block_named v.ty project) [ Some q ↦ in_out_names (variables_of q.lists) | None ↦ [] ])
+        ])
         by_kind v (Some k) = refl
         by_kind v None = ap (User (place_named v.ty project) (first_leaf (leaf_count project) (in_lower_case i) (variables_of p.lists)) (length (flat_map element_cells p.elements) + first_leaf (cell_count project) (in_lower_case i) (variables_of p.lists))) (in_outs_at_is v i)
 

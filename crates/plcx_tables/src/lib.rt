@@ -13,7 +13,6 @@ mod table;
 mod variables;
 
 pub use keys::Key;
-pub use levels::firsts;
 pub use names::Name;
 pub use numbered::Numbered;
 pub use own::{Own, owns};
