@@ -1,0 +1,18 @@
+use Rattle.std.proofs.Common.{◌∙◌, List, ap, refl, subst}
+use Rattle.std.specs.Prelude.{slice_get}
+use Rattle.plcx_meaning.specs.Diagram.{Pou}
+use Rattle.plcx_drawn.specs.declared.drawing.Drawing.{Drawing}
+use Rattle.plcx_drawn.specs.Pous.{shown_pou}
+use Rattle.plcx_program.specs.Bodies.{AddsBody}
+use Rattle.plcx_program.proofs.Zips.{mapped_there}
+use Rattle.plcx_program.proofs.Growing.{bodies_more}
+use Rattle.plcx_program.proofs.bodies.bodies_of.Goals as goal
+
+pub loop-place-preserved : goal.loop-place-preserved
+loop-place-preserved c = λ pous is.
+    let drawings = c.args.drawings.now in
+    let i = c.loop-place.place in
+    let item = c.index-drawings-place.result in
+    let there = ap (λ (project : List Pou). slice_get project i) is ∙ mapped_there (shown_pou pous) drawings i item c.loop-place-test.true c.index-drawings-place.is in
+    bodies_more c.args.tables.now (shown_pou pous) drawings i item c.loop-place-test.true c.loop-place.all c.in_ok-all.all (c.loop-place.invariant pous is)
+    (subst (λ (d : Drawing). AddsBody c.args.tables.now (shown_pou pous d) c.loop-place.all c.in_ok-all.all) c.index-drawings-place.is (c.in_ok-all.ensures (shown_pou pous item) (record { there = there; networks = refl })))
