@@ -7,3 +7,5 @@ pub mod Repeating
 pub mod Within
 pub mod Places
 pub mod Found
+pub mod Meant
+pub mod Counts

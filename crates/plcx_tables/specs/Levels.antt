@@ -16,10 +16,10 @@ user t = if t.elementary then None else (elim t.standard [ Some k ↦ None | Non
 -- how many leaves it has, by those of the POUs; standard blocks have theirs or none yet
 abbrev pub leaf_weight : (standard : Bool) → List ℕ → Told → ℕ
 leaf_weight standard leaves t =
-    if t.in_out then 0 else (if t.elementary then 1 else (elim t.standard [
+    if t.kept then (if t.elementary then 1 else (elim t.standard [
       | Some k ↦ if standard then length (pins k) else 0
       | None ↦ elim t.block [ Some place ↦ slice_index leaves place | None ↦ 0 ]
-    ]))
+    ])) else 0
 
 -- how many memories
 abbrev pub memory_weight : List ℕ → Told → ℕ

@@ -1,12 +1,12 @@
 -- What the code keeps of a variable, as the definitions see it.
-use Rattle.std.specs.Prelude.{ℕ, Bool, List, Option, Some, None, is_some, map, if◌then◌else◌}
+use Rattle.std.specs.Prelude.{ℕ, Bool, not, List, Option, Some, None, is_some, map, if◌then◌else◌}
 use Rattle.plcx_types.specs.TypeName.{type_named}
 use Rattle.plcx_std.specs.declared.kind.StdKind.{StdKind}
 use Rattle.plcx_std.specs.Kind.{kind_named}
 use Rattle.plcx_meaning.specs.Diagram as diagram
 use Rattle.plcx_meaning.specs.Diagram.{Project, is_program}
 use Rattle.plcx_meaning.specs.Evaluate.{is_in_out, place_named}
-use Rattle.plcx_meaning.specs.Layout.{Variable}
+use Rattle.plcx_meaning.specs.Layout.{Variable, is_kept}
 use Rattle.plcx_model.specs.declared.project.Pou.{Pou}
 use Rattle.plcx_model.specs.declared.project.PouKind.TheVariants.{Program, FunctionBlock}
 use Rattle.plcx_rules.specs.Texts.{same_name}
@@ -40,10 +40,11 @@ pub record AreNamed (project : Project) (named : Pous) : Type 0 where
 
 -- ---- variables
 
--- a variable by its name, whether it is an in-out, and what the name of its type stands for
+-- a variable by its name, whether it is an in-out, whether it has leaves of its own, and what the name of its type stands for
 pub record Told : Type 0 where
   pub name : List ℕ
   pub in_out : Bool
+  pub kept : Bool
   pub elementary : Bool
   pub standard : Option StdKind
   pub block : Option ℕ
@@ -54,6 +55,7 @@ abbrev pub told : Project → Variable → Told
 told project v = record {
   name = v.name;
   in_out = is_in_out (Some v);
+  kept = is_kept v.class;
   elementary = is_some (type_named v.ty);
   standard = kind_named v.ty;
   block = first_place same_name (block_names project) v.ty;
@@ -62,4 +64,4 @@ told project v = record {
 
 -- what the code tells
 abbrev pub shown : Declared → Told
-shown d = record { name = d.name.now; in_out = d.in_out; elementary = d.elementary; standard = d.standard; block = d.block; pou = d.pou }
+shown d = record { name = d.name.now; in_out = d.in_out; kept = not d.in_out; elementary = d.elementary; standard = d.standard; block = d.block; pou = d.pou }
