@@ -9,3 +9,4 @@ pub mod Places
 pub mod Found
 pub mod Meant
 pub mod Counts
+pub mod InOuts

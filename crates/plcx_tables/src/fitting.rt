@@ -18,7 +18,7 @@ use plcx_types::NoMemory;
 /// The tables of all POUs, in which each leaf within a variable has a number of 32 bits.
 #[derive(Drop)]
 pub struct Tables<'t, 'a> {
-    pub(crate) tables: &'t [Table<'a>],
+    pub tables: &'t [Table<'a>],
     ghost fits: { (k : ℕ) (t : Table) → slice_get tables.now k ≡ Some t → FitsIn tables.now t },
 }
 

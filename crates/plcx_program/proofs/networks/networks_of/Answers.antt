@@ -15,14 +15,14 @@ with_network-requires-clause-literals c =
     (each_item (Each ElementHasLiterals) (shown_network d) d.networks.now c.loop-network.network-index c.network-item.result c.requires c.loop-network-test.true c.network-item.is)
 
 pub loop-network-preserved : goal.loop-network-preserved
-loop-network-preserved c = λ p drawn.
+loop-network-preserved c = λ project p drawn.
     let d = c.args.drawing.now in
     let i = c.loop-network.network-index in
     let item = c.network-item.result in
-    networks_more c.args.tables.now p (shown_network d) d.networks.now i item c.loop-network-test.true c.args.shared c.loop-network.all c.in_ok-all.all (c.loop-network.invariant p drawn)
-    (subst (λ (places : List ℕ). AddsNetwork c.args.tables.now p (shown_network d places) c.loop-network.all c.in_ok-all.all) (c.as_slice.ensures ∙ c.network-item.is) (c.in_ok-all.ensures p drawn))
+    networks_more project p (shown_network d) d.networks.now i item c.loop-network-test.true c.args.shared c.loop-network.all c.in_ok-all.all (c.loop-network.invariant project p drawn)
+    (subst (λ (places : List ℕ). AddsNetwork project p (shown_network d places) c.loop-network.all c.in_ok-all.all) (c.as_slice.ensures ∙ c.network-item.is) (c.in_ok-all.ensures project p drawn))
 
 pub returns : goal.returns
-returns c = λ p drawn.
+returns c = λ project p drawn.
     let d = c.args.drawing.now in
-    subst (λ (ns : List (List ℕ)). HasNetworks c.args.tables.now p (map (shown_network d) ns) c.args.shared c.loop-network.all) (take_all c.loop-network.network-index d.networks.now c.loop-network-test.false) (c.loop-network.invariant p drawn)
+    subst (λ (ns : List (List ℕ)). HasNetworks project p (map (shown_network d) ns) c.args.shared c.loop-network.all) (take_all c.loop-network.network-index d.networks.now c.loop-network-test.false) (c.loop-network.invariant project p drawn)

@@ -6,8 +6,10 @@ use Rattle.plcx_meaning.specs.Diagram.{Pou, Project}
 use Rattle.plcx_drawn.specs.Pous.{shown_pou}
 use Rattle.plcx_prepare.specs.Literals.{ElementHasLiterals}
 use Rattle.plcx_bodies.specs.Made.{Begins}
+use Rattle.plcx_tables.specs.declared.own.Own.{Own}
+use Rattle.plcx_tables.specs.Tabled.{ArePlaced}
 use Rattle.plcx_steps.specs.declared.program.Program.{Program}
-use Rattle.plcx_program.specs.Bodies.{IsUnframed}
+use Rattle.plcx_program.specs.Bodies.{AreTablesOf, IsUnframed}
 use Rattle.plcx_program.proofs.Zips.{each_unmapped}
 use Rattle.plcx_program.proofs.Programs.{is_program}
 use Rattle.plcx_program.proofs.preparing.prepared.Goals as goal
@@ -27,6 +29,8 @@ returns c =
       arguments = sym (append-nil all.shared.arguments.items);
       bindings = sym (append-nil all.shared.bindings.items);
     } in
-    let is = c.in_ok-tables.ensures in
-    let are : AllZip (IsUnframed project program) project all.items.items = subst (λ (x : Project). AllZip (IsUnframed x program) x all.items.items) is (c.in_ok-all.ensures pous is program begins) in
+    let placed : ArePlaced c.in_ok-owns.owns.items c.in_ok-list.list.items = subst (λ (os : List Own). ArePlaced os c.in_ok-list.list.items) c.deref.ensures.value c.in_ok-list.ensures in
+    let same = c.in_ok-tables.ensures ∙ c.deref-2.ensures.value in
+    let told : AreTablesOf project c.in_ok-tables.tables.tables.now = record { owns = c.in_ok-owns.owns.items; own = c.in_ok-owns.ensures; placed = subst (ArePlaced c.in_ok-owns.owns.items) (sym same) placed } in
+    let are : AllZip (IsUnframed project program) project all.items.items = c.in_ok-all.ensures pous told program begins in
     is_program project program c.requires.fits all.items.items are c.in_ok-bodies.ensures
