@@ -23,7 +23,7 @@ use Rattle.plcx_tables.proofs.Meant.{or_zero, leaves_to, memories_to, leaf_is, f
 
 -- ---- sums over what is told
 
-summed : (f : Told → ℕ) (g : Variable → ℕ) (project : Project) → ((v : Variable) → f (told project v) ≡ g v) → (vs : List Variable) → sum_by f (map (told project) vs) ≡ sum_by g vs
+pub summed : (f : Told → ℕ) (g : Variable → ℕ) (project : Project) → ((v : Variable) → f (told project v) ≡ g v) → (vs : List Variable) → sum_by f (map (told project) vs) ≡ sum_by g vs
 summed f g project same [] = refl
 summed f g project same (v ∷ vs) = sum_by-cons f (told project v) (map (told project) vs) ∙ ap₂ (λ a b. a + b) (same v) (summed f g project same vs) ∙ sym (sum_by-cons g v vs)
 
@@ -35,7 +35,7 @@ highest_told : (f : Told → ℕ) (g : Variable → ℕ) (project : Project) →
 highest_told f g project same [] = refl
 highest_told f g project same (v ∷ vs) = ap₂ max (same v) (highest_told f g project same vs)
 
-remembered_count : (es : List DiagramElement) → length (at_places (remembered es)) ≡ length (flat_map element_cells es)
+pub remembered_count : (es : List DiagramElement) → length (at_places (remembered es)) ≡ length (flat_map element_cells es)
 remembered_count es = length-map (remembered es) Some ∙ from es
   where
     by : (b : Bool) (e : DiagramElement) → length ((if b then AtEdge e.id ∷ [] else []) ++ outputs_of e.id e.fed) ≡ length {A = Cell} ((if b then ([], AtEdge e.id) ∷ [] else []) ++ map (λ (p : Port). ([], AtOutput e.id (in_lower_case p.pin))) e.fed)
@@ -108,12 +108,12 @@ module _ (project : Project) where
       by (Some place) = ap suc (no_numbers project place)
 
   module _ (owns : List Own) (all : AreOwn project owns) where
-    deep_leaves_are : deep_leaves owns ≡ map (leaves_to project 17) project
+    pub deep_leaves_are : deep_leaves owns ≡ map (leaves_to project 17) project
     deep_leaves_are =
         ap (repeated 16 (stepped (Leaves true) owns)) (from_zip (IsOwn project) _ (leaves_to project 1) own_first project owns all)
         ∙ rounds (stepped (Leaves true) owns) (λ n. map (leaves_to project (suc n)) project) (λ n. from_zip (IsOwn project) _ _ (own_leaves n) project owns all) 16 0
 
-    deep_memories_are : deep_memories owns ≡ map (memories_to project 17) project
+    pub deep_memories_are : deep_memories owns ≡ map (memories_to project 17) project
     deep_memories_are =
         ap (repeated 16 (stepped Memories owns)) (from_zip (IsOwn project) _ (memories_to project 1) (memories_by [] zero no_memories) project owns all)
         ∙ rounds (stepped Memories owns) (λ n. map (memories_to project n) project) (λ n. from_zip (IsOwn project) _ _ (memories_by (map (memories_to project n) project) n (memory_is project n)) project owns all) 16 1

@@ -5,8 +5,10 @@ pub mod Drawn
 pub mod Listed
 pub mod Repeating
 pub mod Within
-pub mod Places
-pub mod Found
 pub mod Meant
 pub mod Counts
-pub mod InOuts
+pub mod Founds
+pub mod Keyed
+pub mod Meaning
+pub mod Places
+pub mod Found

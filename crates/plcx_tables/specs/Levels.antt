@@ -3,7 +3,7 @@ use Rattle.std.specs.Prelude.{ℕ, zero, suc, ◌+◌, Bool, List, [], ◌∷◌
 use Rattle.std.specs.List.{sum_by}
 use Rattle.plcx_std.specs.Pins.{pins}
 use Rattle.plcx_tables.specs.declared.levels.Rule.{Rule}
-use Rattle.plcx_tables.specs.declared.levels.Rule.TheVariants.{Leaves, Memories, Levels, Firsts}
+use Rattle.plcx_tables.specs.declared.levels.Rule.TheVariants.{Leaves, Memories, Levels}
 use Rattle.plcx_tables.specs.declared.own.Own.{Own}
 use Rattle.plcx_tables.specs.Telling.{Told, shown}
 
@@ -29,10 +29,6 @@ memory_weight memories t = elim (user t) [ Some place ↦ slice_index memories p
 abbrev pub level_weight : List ℕ → Told → ℕ
 level_weight levels t = elim (user t) [ Some place ↦ suc (slice_index levels place) | None ↦ 0 ]
 
--- where the share of its block ends
-abbrev pub end_weight : (sizes firsts : List ℕ) → Told → ℕ
-end_weight sizes firsts t = elim (user t) [ Some place ↦ slice_index firsts t.pou + slice_index sizes t.pou | None ↦ 0 ]
-
 -- ---- a POU
 
 -- its variables as they are told
@@ -44,7 +40,7 @@ abbrev pub greatest : (Told → ℕ) → List Told → ℕ
 greatest f [] = 0
 greatest f (t ∷ ts) = max (f t) (greatest f ts)
 
--- the leaves, memories and levels of a POU, and where its share begins, by those of the POUs
+-- the leaves, memories and levels of a POU, by those of the POUs
 abbrev pub leaves_of : (standard : Bool) → Own → List ℕ → ℕ
 leaves_of standard own leaves = sum_by (leaf_weight standard leaves) (variables_told own)
 
@@ -54,15 +50,11 @@ memories_of own memories = own.memories.count + sum_by (memory_weight memories) 
 abbrev pub level_of : Own → List ℕ → ℕ
 level_of own levels = greatest (level_weight levels) (variables_told own)
 
-abbrev pub first_of : (sizes : List ℕ) → Own → List ℕ → ℕ
-first_of sizes own firsts = greatest (end_weight sizes firsts) (variables_told own)
-
 -- which of them a rule tells
 abbrev pub number_by : Rule → Own → List ℕ → ℕ
 number_by (Leaves standard) own before = leaves_of standard own before
 number_by Memories own before = memories_of own before
 number_by Levels own before = level_of own before
-number_by (Firsts sizes) own before = first_of sizes.now own before
 
 -- ---- all POUs
 

@@ -1,7 +1,7 @@
 //! Numbers of POUs that follow from those of the blocks that they have instances of, level by level.
-ghost use Rattle.std.specs.Prelude.{◌≡◌, ◌+◌, IfOk, map, slice_index};
+ghost use Rattle.std.specs.Prelude.{◌≡◌, ◌+◌, IfOk, slice_index};
 ghost use Rattle.plcx_tables.specs.Telling.{shown};
-ghost use Rattle.plcx_tables.specs.Levels.{user, leaf_weight, memory_weight, level_weight, end_weight, leaves_of, memories_of, level_of, first_of, number_by, stepped, repeated};
+ghost use Rattle.plcx_tables.specs.Levels.{user, leaf_weight, memory_weight, level_weight, leaves_of, memories_of, level_of, number_by, stepped, repeated};
 
 use crate::own::Own;
 use crate::variables::Declared;
@@ -14,14 +14,12 @@ pub(crate) const LEVELS: u32 = 17;
 
 /// Which number of a POU follows from those of the blocks that it has instances of.
 #[derive(Clone, Copy)]
-pub(crate) enum Rule<'s> {
+pub(crate) enum Rule {
     /// Its leaves, where standard blocks have theirs or none yet.
     Leaves(bool),
     Memories,
     /// How many levels of blocks are below it.
     Levels,
-    /// Where its share begins, behind the shares of the blocks that it calls, which are of these sizes.
-    Firsts(&'s [usize]),
 }
 
 /// The number at a place, 0 where there is none.
@@ -94,16 +92,6 @@ fn variable_level(variable: &Declared, levels: &[usize]) -> Result<usize, NoMemo
     }
 }
 
-/// Where the share of the block ends that a variable is an instance of.
-fn variable_end(variable: &Declared, sizes: &[usize], firsts: &[usize]) -> Result<usize, NoMemory>
-    ensures { IfOk result (λ end. end ≡ end_weight sizes.now firsts.now (shown variable.now)) }
-{
-    match user(variable) {
-        None => Ok(0),
-        Some(_) => Ok(more(at(firsts, variable.pou), at(sizes, variable.pou))?),
-    }
-}
-
 pub(crate) fn leaves_of(own: &Own, standard: bool, leaves: &[usize]) -> Result<usize, NoMemory>
     ensures { IfOk result (λ count. count ≡ leaves_of standard own.now leaves.now) }
 {
@@ -134,24 +122,13 @@ pub(crate) fn level_of(own: &Own, levels: &[usize]) -> Result<usize, NoMemory>
     Ok(level)
 }
 
-fn first_of(own: &Own, sizes: &[usize], firsts: &[usize]) -> Result<usize, NoMemory>
-    ensures { IfOk result (λ first. first ≡ first_of sizes.now own.now firsts.now) }
-{
-    let mut first = 0usize;
-    for variable in &own.variables {
-        first = first.max(variable_end(variable, sizes, firsts)?);
-    }
-    Ok(first)
-}
-
 fn number(rule: Rule, own: &Own, before: &[usize]) -> Result<usize, NoMemory>
-    ensures { IfOk result (λ number. number ≡ number_by rule.entry own.now before.now) }
+    ensures { IfOk result (λ number. number ≡ number_by rule own.now before.now) }
 {
     match rule {
         Rule::Leaves(standard) => Ok(leaves_of(own, standard, before)?),
         Rule::Memories => Ok(memories_of(own, before)?),
         Rule::Levels => Ok(level_of(own, before)?),
-        Rule::Firsts(sizes) => Ok(first_of(own, sizes, before)?),
     }
 }
 
@@ -162,7 +139,7 @@ pub(crate) fn step(
     owns: &[Own],
     before: &[usize],
 ) -> Result<Vec<usize>, NoMemory>
-    ensures { IfOk result (λ next. next.items ≡ stepped rule.entry owns.now before.now) }
+    ensures { IfOk result (λ next. next.items ≡ stepped rule owns.now before.now) }
 {
     let mut next = Vec::new(alloc);
     for own in owns {
@@ -179,7 +156,7 @@ pub(crate) fn steps(
     first: Vec<usize>,
     count: u32,
 ) -> Result<Vec<usize>, NoMemory>
-    ensures { IfOk result (λ last. last.items ≡ repeated count (stepped rule.entry owns.now) first.items) }
+    ensures { IfOk result (λ last. last.items ≡ repeated count (stepped rule owns.now) first.items) }
 {
     let mut last = first;
     for _round in 0..count {
@@ -190,19 +167,4 @@ pub(crate) fn steps(
         last = next;
     }
     Ok(last)
-}
-
-/// Where the share of each POU begins among those of all, of which it has this size: behind the shares of the blocks
-/// that it calls. POUs that call themselves have no such place, and are taken for want of memory.
-pub fn firsts(alloc: Global, owns: &[Own], sizes: &[usize]) -> Result<Vec<usize>, NoMemory>
-    ensures { IfOk result (λ firsts. firsts.items ≡ map (λ own. first_of sizes.now own firsts.items) owns.now) }
-{
-    let rule = Rule::Firsts(sizes);
-    let last = steps(alloc, rule, owns, Vec::new(alloc), LEVELS)?;
-    let next = step(alloc, rule, owns, &last)?;
-    if next.as_slice() == last.as_slice() {
-        Ok(last)
-    } else {
-        Err(NoMemory)
-    }
 }

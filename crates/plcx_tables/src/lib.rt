@@ -17,7 +17,6 @@ mod variables;
 
 pub use fitting::Tables;
 pub use keys::Key;
-pub use levels::firsts;
 pub use names::Name;
 pub use network::NetworkNumbers;
 pub use numbered::Numbered;
