@@ -42,3 +42,14 @@ zip_through R S T P Q [] (y ∷ ys) zs f ps qs h k = absurd h
 zip_through R S T P Q (x ∷ xs) [] zs f ps qs h k = absurd h
 zip_through R S T P Q (x ∷ xs) (y ∷ ys) [] f ps qs h k = absurd k
 zip_through R S T P Q (x ∷ xs) (y ∷ ys) (z ∷ zs) f ps qs h k = (f x y z ps.0 qs.0 h.0 k.0, zip_through R S T P Q xs ys zs f ps.1 qs.1 h.1 k.1)
+
+-- what an item is shown as stands among all that are shown
+pub mapped_there : {A B : Type 0} (f : A → B) (xs : List A) (i : ℕ) (x : A) → i < length xs → x ≡ get_or xs i x → slice_get (map f xs) i ≡ Some (f x)
+mapped_there f [] i x low is = absurd (omega arith)
+mapped_there f (y ∷ ys) zero x low is = ap (λ z. Some (f z)) (sym is)
+mapped_there f (y ∷ ys) (suc i) x low is = let less : i < length ys = omega arith in mapped_there f ys i x less is
+
+-- what holds of each that is shown holds of what each is shown as
+pub each_unmapped : {A B : Type 0} (P : B → Type 0) (f : A → B) (xs : List A) → Each P (map f xs) → Each (λ x. P (f x)) xs
+each_unmapped P f [] h = tt
+each_unmapped P f (x ∷ xs) h = (h.0, each_unmapped P f xs h.1)

@@ -12,6 +12,10 @@ use Rattle.plcx_numbered.specs.Programs.{IsNetworkOf}
 use Rattle.plcx_drawn.specs.declared.drawing.Drawing.{Drawing}
 use Rattle.plcx_drawn.specs.Shown.{shown_networks}
 use Rattle.plcx_prepare.specs.Literals.{ElementHasLiterals}
+use Rattle.plcx_tables.specs.declared.own.Own.{Own}
+use Rattle.plcx_tables.specs.declared.placed.Table.{Table}
+use Rattle.plcx_tables.specs.Owned.{AreOwn}
+use Rattle.plcx_tables.specs.Tabled.{ArePlaced}
 use Rattle.plcx_bodies.specs.Framed.{IsWithin}
 use Rattle.plcx_bodies.specs.Made.{Begins}
 use Rattle.plcx_bodies.specs.declared.networks.Shared.{Shared}
@@ -22,8 +26,15 @@ use Rattle.plcx_program.specs.declared.bodies.Bodies.{Bodies}
 abbrev pub HaveLiterals : Drawing → Type 0
 HaveLiterals d = Each (Each ElementHasLiterals) (shown_networks d)
 
--- the drawing is the POU at that place
-pub record IsDrawn (project : Project) (place : ℕ) (drawing : Drawing) (p : Pou) : Type 0 where
+-- tables of the POUs of a project
+pub record AreTablesOf (project : Project) (tables : List Table) : Type 0 where
+  pub owns : List Own
+  pub own : AreOwn project owns
+  pub placed : ArePlaced owns tables
+
+-- the drawing is the POU at that place, and these are the tables of all
+pub record IsDrawn (project : Project) (tables : List Table) (place : ℕ) (drawing : Drawing) (p : Pou) : Type 0 where
+  pub told : AreTablesOf project tables
   pub there : slice_get project place ≡ Some p
   pub networks : p.networks ≡ shown_networks drawing
 

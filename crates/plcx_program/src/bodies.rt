@@ -6,7 +6,7 @@ ghost use Rattle.plcx_meaning.specs.Diagram as diagram;
 ghost use Rattle.plcx_drawn.specs.Shown.{shown_networks};
 ghost use Rattle.plcx_drawn.specs.Pous.{shown_pou};
 ghost use Rattle.plcx_prepare.specs.Literals.{ElementHasLiterals};
-ghost use Rattle.plcx_program.specs.Bodies.{HaveLiterals, IsDrawn, AddsBody, HasBodies};
+ghost use Rattle.plcx_program.specs.Bodies.{HaveLiterals, AreTablesOf, IsDrawn, AddsBody, HasBodies};
 
 use crate::networks::networks_of;
 use plcx_bodies::{Shared, width};
@@ -33,26 +33,30 @@ fn with_body(
     before: Bodies,
 ) -> Result<Bodies, NoMemory>
     requires { Each (Each ElementHasLiterals) (shown_networks drawing.now) }
-    ensures { IfOk result (λ after. (p : diagram.Pou) → IsDrawn tables.now place drawing.now p → AddsBody tables.now p before after) }
+    ensures { IfOk result (λ after. (project : diagram.Project) (p : diagram.Pou) → IsDrawn project tables.now.tables.now place drawing.now p → AddsBody project p before after) }
 {
     let Bodies { mut items, shared } = before;
     let made = networks_of(alloc, tables, place, drawing, shared)?;
-    let counts = tables.counts(place);
-    items.push(Body {
-        level: counts.level,
-        leaves: counts.leaves,
-        memories: counts.memories,
-        in_outs: counts.in_outs,
-        first_wire: 0,
-        first_in_out: 0,
-        width: width(&made.items),
-        jumps: has_jump(drawing),
-        networks: made.items,
-    })?;
-    Ok(Bodies {
-        items,
-        shared: made.shared,
-    })
+    match tables.table(place) {
+        None => Err(NoMemory),
+        Some(table) => {
+            items.push(Body {
+                level: table.level,
+                leaves: table.leaves,
+                memories: table.memories,
+                in_outs: table.in_outs(),
+                first_wire: 0,
+                first_in_out: 0,
+                width: width(&made.items),
+                jumps: has_jump(drawing),
+                networks: made.items,
+            })?;
+            Ok(Bodies {
+                items,
+                shared: made.shared,
+            })
+        }
+    }
 }
 
 /// The bodies of all drawings.
@@ -62,7 +66,7 @@ pub(crate) fn bodies_of(
     drawings: &[Drawing],
 ) -> Result<Bodies, NoMemory>
     requires { Each HaveLiterals drawings.now }
-    ensures { IfOk result (λ all. (pous : List Pou) → tables.now ≡ map (shown_pou pous) drawings.now → HasBodies tables.now tables.now all) }
+    ensures { IfOk result (λ all. (pous : List Pou) → AreTablesOf (map (shown_pou pous) drawings.now) tables.now.tables.now → HasBodies (map (shown_pou pous) drawings.now) (map (shown_pou pous) drawings.now) all) }
 {
     let mut all = Bodies {
         items: Vec::new(alloc),

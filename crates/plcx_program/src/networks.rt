@@ -1,7 +1,7 @@
 //! The networks of a body, one after another.
 ghost use Rattle.std.specs.Prelude.{IfOk};
 ghost use Rattle.plcx_types.specs.Lists.{Each};
-ghost use Rattle.plcx_meaning.specs.Diagram.{Pou};
+ghost use Rattle.plcx_meaning.specs.Diagram.{Pou, Project};
 ghost use Rattle.plcx_drawn.specs.Shown.{shown_network, shown_networks};
 ghost use Rattle.plcx_prepare.specs.Literals.{ElementHasLiterals};
 ghost use Rattle.plcx_program.specs.Bodies.{IsDrawn, AddsNetwork, HasNetworks};
@@ -33,7 +33,7 @@ fn with_network(
 ) -> Result<Networks, NoMemory>
     requires literals { Each ElementHasLiterals (shown_network drawing.now places.now) }
     requires targets { targets.now ≡ shown_networks drawing.now }
-    ensures { IfOk result (λ after. (p : Pou) → IsDrawn tables.now place drawing.now p → AddsNetwork tables.now p (shown_network drawing.now places.now) before after) }
+    ensures { IfOk result (λ after. (project : Project) (p : Pou) → IsDrawn project tables.now.tables.now place drawing.now p → AddsNetwork project p (shown_network drawing.now places.now) before after) }
 {
     let Networks { mut items, shared } = before;
     let numbers = tables.network(alloc, place, drawing, places)?;
@@ -56,7 +56,7 @@ pub(crate) fn networks_of(
     shared: Shared,
 ) -> Result<Networks, NoMemory>
     requires { Each (Each ElementHasLiterals) (shown_networks drawing.now) }
-    ensures { IfOk result (λ all. (p : Pou) → IsDrawn tables.now place drawing.now p → HasNetworks tables.now p (shown_networks drawing.now) shared all) }
+    ensures { IfOk result (λ all. (project : Project) (p : Pou) → IsDrawn project tables.now.tables.now place drawing.now p → HasNetworks project p (shown_networks drawing.now) shared all) }
 {
     let targets = Targets::of(alloc, drawing)?;
     let mut all = Networks {

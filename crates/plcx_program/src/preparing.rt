@@ -12,7 +12,7 @@ use plcx_bodies::with_frames;
 use plcx_drawn::Drawing;
 use plcx_model::Pou;
 use plcx_steps::Program;
-use plcx_tables::Tables;
+use plcx_tables::{Tables, owns, tables};
 use plcx_types::NoMemory;
 use std::alloc::Global;
 
@@ -22,7 +22,9 @@ pub fn prepared(alloc: Global, pous: &[Pou], drawings: &[Drawing]) -> Result<Pro
     requires fits { ∥ ProjectFits (map (shown_pou pous.now) drawings.now) ∥₁ }
     ensures { IfOk result (IsProgramOf (map (shown_pou pous.now) drawings.now)) }
 {
-    let tables = Tables::of(alloc, pous, drawings)?;
+    let owns = owns(alloc, pous, drawings)?;
+    let list = tables(alloc, &owns)?;
+    let tables = Tables::of(&list)?;
     let all = bodies_of(alloc, &tables, drawings)?;
     let bodies = with_frames(alloc, all.items)?;
     Ok(Program {

@@ -10,3 +10,5 @@ pub mod Counts
 pub mod Founds
 pub mod Keyed
 pub mod Meaning
+pub mod Places
+pub mod Found

@@ -7,3 +7,5 @@ pub mod Levels
 pub mod Placing
 pub mod Tabled
 pub mod Numbering
+pub mod Fitting
+pub mod Networks

@@ -87,7 +87,7 @@ fn in_outs_of(alloc: Global, variables: &[Declared]) -> Result<Vec<Vec<u8>>, NoM
 }
 
 /// The outputs of an element that feed back more.
-fn with_fed<'a>(
+pub(crate) fn with_fed<'a>(
     memories: Numbered<Key<'a>>,
     id: u64,
     fed: &[Port<'a>],
