@@ -1,5 +1,5 @@
 -- The program of a run among the diagrams, by the POUs of the file.
-use Rattle.std.proofs.Common.{◌≡◌, ◌≢◌, ◌+◌, ◌∷◌, ◌∙◌, ℕ, suc, Bool, true, false, true≢false, List, [], Option, Some, None, length, refl, sym, ap, ap₂, subst, arith}
+use Rattle.std.proofs.Common.{◌≡◌, ◌+◌, ◌∷◌, ◌∙◌, ℕ, suc, Bool, true, false, true≢false, List, [], Option, Some, None, length, refl, sym, ap, ap₂, arith}
 use Rattle.std.specs.Prelude.{filter, find, nat_eq, if◌then◌else◌, ◌&&◌}
 use Rattle.std.specs.Str.{bytes_eq}
 use Rattle.std.proofs.lemmas.Bool.{and_parts, eqb-true}
@@ -13,7 +13,7 @@ use Rattle.plcx_model.specs.declared.plan.Types.{Types}
 use Rattle.plcx_model.specs.declared.plan.Plan.{Plan}
 use Rattle.plcx_model.specs.declared.project.Pou.{Pou}
 use Rattle.plcx_model.specs.declared.project.Project.{Project}
-use Rattle.plcx_traced.specs.Programs.{IsChosen, IsMissing}
+use Rattle.plcx_traced.specs.Programs.{IsMissing}
 use Rattle.plcx_view.specs.Declared.{kind_of_pou}
 use Rattle.plcx_view.specs.Diagrams.{pous_from, diagrams_of}
 use Rattle.plcx_simulate.specs.Programs.{programs_of}

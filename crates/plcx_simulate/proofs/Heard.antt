@@ -5,7 +5,7 @@ use Rattle.plcx_types.specs.Lists.{Each}
 use Rattle.plcx_meaning.specs.Base.{Path}
 use Rattle.plcx_meaning.specs.Diagram.{Pou, Project}
 use Rattle.plcx_meaning.specs.Evaluate.{Heard, DiagramState, diagram_machine}
-use Rattle.plcx_meaning.specs.Run.{Machine, Side, begin_side}
+use Rattle.plcx_meaning.specs.Run.{Machine, begin_side}
 use Rattle.plcx_meaning.specs.Watch.{heard_over}
 use Rattle.plcx_words.specs.Command.{Run}
 use Rattle.plcx_state.specs.Layouts.{all_meant}
@@ -15,15 +15,15 @@ use Rattle.plcx_scan.specs.Texts.{HasTrace}
 use Rattle.plcx_eval.specs.declared.side.DiagramSide.{DiagramSide}
 use Rattle.plcx_eval.specs.Sides.{diagrams, program, machine_of, laid_of, StandsFor, OpensFor}
 use Rattle.plcx_eval.specs.Watching.{IsFront}
-use Rattle.plcx_traced.specs.Files.{TellsEvents, WhyNotFollowed}
+use Rattle.plcx_traced.specs.Files.{TellsEvents}
 use Rattle.plcx_traced.specs.Runs.{Begun, Course, IsTraced, WhyNot, kept_in}
 use Rattle.plcx_traced.specs.Runs as runs
 use Rattle.plcx_traced.specs.declared.error.RunError.{RunError}
 use Rattle.plcx_traced.specs.declared.error.RunError.TheVariants.{NoProgram, RetainedRead, Line, EventsRead, Row, NoMemory}
-use Rattle.plcx_traced.proofs.Made.{IsOpened, not_followed, kept_at_same, plain_same}
+use Rattle.plcx_traced.proofs.Made.{IsOpened, kept_at_same, plain_same}
 use Rattle.plcx_simulate.specs.Programs.{programs_of}
 use Rattle.plcx_simulate.specs.Listening.{IsWatchedTrace, IsHeardFront, StopsWatched}
-use Rattle.plcx_simulate.specs.Watching.{heard_in, HearsAll, HearsFront, Watches}
+use Rattle.plcx_simulate.specs.Watching.{HearsAll, HearsFront, Watches}
 
 -- of the same file
 pub trace_wider : (told same : Option (List ℕ)) → told ≡ same → (turns : ℕ) (s : DiagramSide) (Became : List Heard → Type 0) (text : List ℕ) → IsWatchedTrace told turns s Became text → IsWatchedTrace same turns s Became text

@@ -1,6 +1,6 @@
 -- What a side leaves to whose scans someone listens.
-use Rattle.std.proofs.Common.{◌≡◌, ℕ, List, [], take, sym, ap, ap₂, ◌∙◌, inl, inr, refl}
-use Rattle.std.specs.Prelude.{Option, Some, ◌⊎◌}
+use Rattle.std.proofs.Common.{◌≡◌, ℕ, List, [], take, ap, ap₂, ◌∙◌, inl, inr, refl}
+use Rattle.std.specs.Prelude.{Option, Some}
 use Rattle.std.specs.Borrow.{MutBor}
 use Rattle.std.specs.List.{fold}
 use Rattle.plcx_meaning.specs.Evaluate.{Heard, DiagramState}

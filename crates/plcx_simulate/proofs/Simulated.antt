@@ -1,7 +1,7 @@
 -- A simulation from its steps.
-use Rattle.std.proofs.Common.{◌≡◌, ◌≤◌, ◌+◌, ◌^◌, ◌-◌, ℕ, List, Ok, Err, min, arith}
+use Rattle.std.proofs.Common.{◌≤◌, ℕ, List, Ok, Err, arith}
 use Rattle.std.specs.Prelude.{Result, IfOk, OnOk}
-use Rattle.plcx_io.specs.Counts.{Rose, raised}
+use Rattle.plcx_io.specs.Counts.{Rose}
 use Rattle.plcx_check.specs.declared.checked.Checked.{Checked}
 use Rattle.plcx_words.specs.Command.{Run}
 use Rattle.plcx_state.specs.Layouts.{Laid, IsLaid}

@@ -1,5 +1,4 @@
-use Rattle.std.proofs.Common.{◌≡◌, ◌∙◌, Some, None, ap, sym, List}
-use Rattle.plcx_model.specs.declared.project.Pou.{Pou}
+use Rattle.std.proofs.Common.{◌≡◌, ◌∙◌, Some, None, ap, sym}
 use Rattle.plcx_words.specs.Says.{said_by_run}
 use Rattle.plcx_simulate.specs.Choosing.{chosen, count}
 use Rattle.plcx_simulate.proofs.Chosen.{chosen_is, none_is, count_is}

@@ -1,4 +1,4 @@
-use Rattle.std.proofs.Common.{◌≡◌, Err, rules, refl, sym, List, ℕ}
+use Rattle.std.proofs.Common.{◌≡◌, Err, rules, List, ℕ}
 use Rattle.std.proofs.lemmas.Result.{IfErr-weaker}
 use Rattle.std.specs.List.{fold}
 use Rattle.plcx_io.specs.Counts.{Rose}
@@ -7,7 +7,7 @@ use Rattle.plcx_words.specs.Says.{said_by_run}
 use Rattle.plcx_traced.specs.Runs.{Begun}
 use Rattle.plcx_traced.proofs.Made.{not_begun, not_followed, followed_wider}
 use Rattle.plcx_simulate.specs.Programs.{programs_of, diagrams_in}
-use Rattle.plcx_simulate.proofs.Heard.{trace_wider, stops_wider, heard_nothing, opened, traced_all, stopped_there, match_result}
+use Rattle.plcx_simulate.proofs.Heard.{trace_wider, stops_wider, opened, traced_all, stopped_there, match_result}
 use Rattle.plcx_simulate.proofs.Simulated.{chosen, both_ok, rose_later}
 use Rattle.plcx_simulate.proofs.simulating.simulated.Goals as goal
 
