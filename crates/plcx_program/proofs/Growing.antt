@@ -22,7 +22,7 @@ pub network_added : (project : Project) (p : Pou) (networks : List (List Diagram
     → IsMade c networks es before.shared made → after.shared ≡ made.shared → after.items.items ≡ before.items.items ++ made.network ∷ [] → AddsNetwork project p es before after
 network_added project p networks es c before after made own num is shared more =
     let mine : IsMade (numbering project p es) p.networks es before.shared made =
-        subst (λ (ns : List (List DiagramElement)). IsMade (numbering project p es) ns es before.shared made) (sym own) (subst (λ (n : Numbering). IsMade n networks es before.shared made) num is) in
+    subst (λ (ns : List (List DiagramElement)). IsMade (numbering project p es) ns es before.shared made) (sym own) (subst (λ (n : Numbering). IsMade n networks es before.shared made) num is) in
     let begins : (program : Program) → Begins after.shared program → Begins made.shared program = λ program b. subst (λ (s : Shared). Begins s program) shared b in
     record {
       network = made.network;

@@ -64,7 +64,15 @@ pub(crate) fn networks_of(
         shared,
     };
     for network in drawing.networks {
-        all = with_network(alloc, tables, &targets, place, drawing, all, network.as_slice())?;
+        all = with_network(
+            alloc,
+            tables,
+            &targets,
+            place,
+            drawing,
+            all,
+            network.as_slice(),
+        )?;
     }
     Ok(all)
 }
