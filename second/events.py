@@ -109,9 +109,9 @@ class Maker:
         r = self.r
         types = settable(side)
         spelled = {up(v.name): v.name for v in side.shown()}
-        names = r.sample(sorted(types), r.randint(0, min(5, len(types))))
+        names = r.sample(sorted(types), r.randint(0, min(7, len(types))))
         rows, time = [['event', 'time'] + [self.cased(spelled[n]) for n in names]], r.choice([0, 0, 1, 1000, LATEST - 60])
-        for _ in range(r.randint(0, 14)):
+        for _ in range(r.randint(0, 20)):
             if self.chance(0.12):
                 rows.append([r.choice(['warm', 'warm', 'cold']), ''] + [''] * len(names))
                 continue

@@ -18,6 +18,9 @@ NAMES = ['A', 'b', 'Go', 'Stop', 'X1', 'y_2', 'Level', 'Sum', 'IN', 'OUT', 'Q', 
 POUS = ['Main', 'Pump', 'Step', 'Filter_1', 'Gate', 'Loop', 'Press', 'IN2', 'z']
 PLAIN_FUNCS = [f for f in FUNCS if '_TO_' not in f]
 CONVERSIONS = [f for f in FUNCS if '_TO_' in f]
+# short presets, and functions that can fault, for files that are to run
+SHORT = ['T#0ms', 'T#-5ms', 'T#1ms', 'T#5ms', 'T#10ms', 'T#10ms', 'T#15ms', 'T#20ms', 'T#30ms', 'T#1s']
+FAULTING = ['ADD', 'SUB', 'MUL', 'DIV', 'DIV', 'ABS', 'MUX', 'SHL', 'ROR']
 # how often a change is tried, 2 where it isn't listed
 WEIGHTS = {
     'bad_id': 1, 'bad_ref': 1, 'bad_ref_to_another_body': 1, 'bad_output_gone': 1, 'bad_second_wire': 4,
@@ -48,9 +51,10 @@ class Generator:
     """A project in the making. Each `make_KIND` puts an element into a body and gives the work that wires it later;
     each `bad_CHANGE` changes one thing, and tells whether there was something to change."""
 
-    def __init__(self, seed):
+    def __init__(self, seed, to_run=False):
         self.r = random.Random(seed)
-        self.pous = []
+        self.to_run = to_run
+        self.pous, self.addresses = [], 0
 
     def chance(self, p):
         """True with the probability p."""
@@ -67,7 +71,7 @@ class Generator:
         r = self.r
         names = r.sample(POUS, r.choice([1, 1, 2, 2, 2, 3]))
         for i, n in enumerate(names):
-            kind = 'program' if i == len(names) - 1 and self.chance(0.8) else r.choice(['functionBlock', 'functionBlock', 'program'])
+            kind = 'program' if i == len(names) - 1 and (self.to_run or self.chance(0.8)) else r.choice(['functionBlock', 'functionBlock', 'program'])
             self.pous.append(self.pou(n, kind))
         for p in self.pous:
             self.body(p)
@@ -88,9 +92,9 @@ class Generator:
         shapes += [('localVars', r.randint(1, 2))] if self.chance(0.4) else []
         for cls, n in shapes:
             constant = cls != 'inOutVars' and self.chance(0.3 if p.lists and cls == 'localVars' else 0.05)
-            l = E(cls=cls, constant=constant, retain=self.chance(0.15), vars=[])
+            l = E(cls=cls, constant=constant, retain=self.chance(0.4 if self.to_run else 0.15), vars=[])
             for _ in range(n):
-                l.vars.append(E(name=pool.pop(), ty=self.some_type(), block=None))
+                l.vars.append(self.variable(pool.pop(), cls))
             p.lists.append(l)
         instances = []
         for _ in range(r.choice([0, 1, 1, 2, 3])):
@@ -103,8 +107,18 @@ class Generator:
             if where and self.chance(0.5):
                 r.choice(where).vars += instances
             else:
-                p.lists.append(E(cls='localVars', constant=False, retain=self.chance(0.15), vars=instances))
+                p.lists.append(E(cls='localVars', constant=False, retain=self.chance(0.4 if self.to_run else 0.15), vars=instances))
         return p
+
+    def variable(self, name, cls):
+        """A variable of an elementary type, perhaps with an initial value and an address."""
+        v = E(name=name, ty=self.some_type(), block=None)
+        if cls != 'inOutVars' and self.chance(0.25):
+            v.first = v.ty, self.literal_of(v.ty) if v.ty == 'TIME' or self.chance(0.6) else self.whole_of(v.ty)
+        if cls != 'inOutVars' and self.chance(0.1):
+            self.addresses += 1
+            v.address = '%%%s%s%d' % (self.r.choice('IQMm'), self.r.choice(['', 'X', 'W', 'd', 'B0.', 'L7.3.']), self.addresses)
+        return v
 
     def variables(self, p, cls=None, constant=None):
         """The variables of a POU, those of some lists where they are named."""
@@ -235,17 +249,39 @@ class Generator:
         if p.ladder:
             rail = self.new(p, 'leftPowerRail')
             p.sources += [(rail, '', 'BOOL')] * 2
-        size = r.choice([1, 2, 3, 3, 4, 5, 6])
+        size = r.choice([2, 3, 5, 8] if self.to_run else [1, 2, 3, 3, 4, 5, 6])
         instances = [v for v in self.variables(p) if v.block]
         for _ in range(size):
             kinds = ['function'] * 5 + ['outVariable'] * 3 + ['connector'] + ['jump'] + ['return', 'comment', 'vendorElement', 'label', 'inVariable']
             kinds += ['block'] * (4 if instances else 0) + (['contact'] * 4 + ['coil'] * 3 + ['rightPowerRail'] if p.ladder else [])
             late.append(getattr(self, 'make_' + r.choice(kinds))(p, instances))
+        for n in range(r.choice([0, 1, 1, 2]) if self.to_run and p.kind == 'program' else 0):
+            self.direct(p, n)
         for f in late:
             if f:
                 f()
         if self.chance(0.3):
             r.shuffle(p.elements)
+
+    def direct(self, p, n):
+        """A standard block that the program's own variables set and show, with short presets."""
+        r, kind = self.r, self.r.choice(list(STANDARD) + ['TON', 'TOF', 'TOF', 'TP', 'TP', 'CTUD'])
+        l = E(cls='localVars', constant=False, retain=self.chance(0.3), vars=[E(name='Block%d' % n, ty=None, block=kind)])
+        p.lists.append(l)
+        e = self.new(p, 'block', type=kind, instance='Block%d' % n)
+        ins, _, outs = self.sides(kind)
+        for k, (name, ty) in enumerate(ins + outs):
+            v, at = E(name='%s_%d' % (name, n), ty=ty, block=None), pin(name, ty, 'in')
+            if k >= len(ins):
+                e.outs.append(at)
+                to = self.new(p, 'outVariable', text=v.name)
+                to.wires.append(E(to=e, formal=name))
+                p.sources.append((e, name, ty))
+            else:
+                e.ins.append(at)
+                text = v.name if ty == 'BOOL' or self.chance(0.1) else r.choice(SHORT) if ty == 'TIME' else r.choice(['-1', '0', '1', '1', '2', '3'])
+                at.wires.append(E(to=self.new(p, 'inVariable', text=text), formal=''))
+            l.vars.append(v)
 
     def make_comment(self, p, _):
         self.new(p, 'comment')
@@ -336,7 +372,7 @@ class Generator:
 
     def make_function(self, p, _):
         r = self.r
-        f = r.choice(PLAIN_FUNCS) if self.chance(0.85) else r.choice(CONVERSIONS)
+        f = r.choice(FAULTING) if self.to_run and self.chance(0.3) else r.choice(PLAIN_FUNCS) if self.chance(0.85) else r.choice(CONVERSIONS)
         fixed, first, least, most, allowed, out = FUNCS[f]
         group = None
         if allowed:
@@ -1032,13 +1068,19 @@ class Generator:
             parts = [pos] + ([self.point_in(e.wires)] if self.chance(0.5) else [self.point_in(e.wires[:cut], True), self.point_in(e.wires[cut:], True)])
         return '<%s%s>%s</%s>' % (k, a, self.kids(parts), k)
 
+    def declaration(self, v, own):
+        """A variable in its list, with its address and initial value where it has a place of its own and still has the type that these are for."""
+        at = ' address="%s"' % v.address if v.address and own else ''
+        first = '<initialValue><simpleValue value="%s"/></initialValue>' % self.esc(v.first[1], True) if v.first and own and v.first[0] == v.ty else ''
+        return '<variable name="%s"%s>%s</variable>' % (v.name, at, self.kids(['<type>%s</type>' % ('<%s/>' % v.ty if v.ty else '<derived name="%s"/>' % self.spelt(v.block)), first]))
+
     def text(self):
         """The whole file."""
         out = []
         for p in self.pous:
             lists = ''
             for l in p.lists:
-                vs = ''.join('<variable name="%s"><type>%s</type></variable>' % (v.name, '<%s/>' % v.ty if v.ty else '<derived name="%s"/>' % self.spelt(v.block)) for v in l.vars)
+                vs = ''.join(self.declaration(v, l.cls != 'inOutVars') for v in l.vars)
                 lists += '<%s%s%s>%s</%s>' % (l.cls, ' constant="true"' if l.constant else '', ' retain="true"' if l.retain else '', vs, l.cls)
             tag = 'LD' if p.ladder else 'FBD'
             # no connection of the body names a vendor element
@@ -1049,10 +1091,10 @@ class Generator:
         return '<project xmlns="http://www.plcopen.org/xml/tc6_0201"><types><pous>\n%s\n</pous></types></project>\n' % '\n'.join(out)
 
 
-def made(seed):
-    """The bytes of the file of a seed."""
-    g = Generator(seed).project()
-    for _ in range(g.r.choice([0, 0, 1, 1, 1, 1, 1, 2, 2, 3])):
+def made(seed, to_run=False):
+    """The bytes of the file of a seed; one that is to run is mostly left as it is drawn."""
+    g = Generator(seed, to_run).project()
+    for _ in range(g.r.choice([0] * 12 + [1] if to_run else [0, 0, 1, 1, 1, 1, 1, 2, 2, 3])):
         g.change()
     return g.text().encode()
 

@@ -1,1 +1,4 @@
 mod Remembering
+pub mod Drawn
+pub mod Propositions
+pub mod Layouts

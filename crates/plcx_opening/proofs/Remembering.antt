@@ -292,5 +292,5 @@ memories_laid project links types plan sound i p here =
     record {
       types = pou_typed project links types plan sound 18 false i p here s;
       retained = pairs_weaker (IsKept scope []) (λ m x. m.retained ≡ is_retained scope x.0) ms (cells depth (whole project links types plan) (seen project links types plan i p)) (λ m x e. e ∙ ap (is_retained scope) (append-nil x.0))
-      (pou_kept project links types plan sound 18 scope refl [] false i p here s refl refl);
+          (pou_kept project links types plan sound 18 scope refl [] false i p here s refl refl);
     }

@@ -7,7 +7,7 @@ use Rattle.plcx_drawn.specs.Shown.{shown_element}
 use Rattle.plcx_declare.specs.Named.{IsNamed, BlockIsNamed}
 use Rattle.plcx_rules.proofs.Lists.{each_split}
 use Rattle.plcx_declare.specs.Texts.{temporaries}
-use Rattle.plcx_declare.proofs.Blocks.{declared}
+use Rattle.plcx_declare.proofs.Declared.{declared}
 use Rattle.plcx_declare.proofs.declaring.blocks.Goals as goal
 
 pub list_blocks-requires : goal.list_blocks-requires
