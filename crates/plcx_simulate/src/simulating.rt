@@ -9,7 +9,9 @@ ghost use Rattle.plcx_state.specs.Layouts.{IsLaid};
 ghost use Rattle.plcx_state.specs.Tables.{HasPlainNames};
 ghost use Rattle.plcx_words.specs.Says.{said_by_run};
 ghost use Rattle.plcx_opening.specs.Opening.{IsLaidAs, IsKeptFor};
-ghost use Rattle.plcx_eval.specs.Sides.{IsOpened, last_of, laid_of, machine_of};
+ghost use Rattle.plcx_meaning.specs.Evaluate.{DiagramState};
+ghost use Rattle.plcx_meaning.specs.Run.{Side as Begun};
+ghost use Rattle.plcx_eval.specs.Sides.{IsOpened, StandsFor, last_of, laid_of, machine_of};
 ghost use Rattle.plcx_traced.specs.Files.{WhyNotFollowed};
 ghost use Rattle.plcx_traced.specs.Runs.{IsTraced, WhyNot};
 ghost use Rattle.plcx_simulate.specs.Watching.{Watches};
@@ -19,7 +21,7 @@ ghost use Rattle.plcx_simulate.specs.Choosing.{IsProgramOf};
 
 use crate::choosing::{chosen, count};
 use plcx_check::Checked;
-use plcx_eval::{DiagramSide, Watched, diagram_layout, heard_in_order, watch_is_told, watched_runs};
+use plcx_eval::{DiagramSide, Watched, diagram_layout, heard_in_order, watch_is_told};
 use plcx_io::Desk;
 use plcx_scan::OpenError;
 use plcx_state::{Layout, Retained};
@@ -63,7 +65,32 @@ fn opened<'a>(
     }
 }
 
-/// The trace of a side over the events of a file, to whose scans a watch listens.
+/// The trace of a side over the events of a file, to whose scans someone listens.
+fn listened<D: Desk, W: Watch>(
+    alloc: Global,
+    desk: &mut D,
+    side: &mut Watched<'_, '_, W>,
+    run: &Run<'_>,
+) -> Result<Vec<u8>, RunError>
+    requires time { last_of side.old.side.now ≡ 0 }
+    requires stands { (g : Begun DiagramState) × StandsFor side.old.side.now g }
+    ensures same_watch { side.new.watch.ghost_name ≡ side.old.watch.ghost_name }
+    ensures ok { IfOk result (λ text. IsWatchedTrace (D.file desk.old run.now.events.now) run.now.turns side.old.side.now
+        (λ heard. side.new.watch.now ≡ fold W.told side.old.watch.now heard) text.items) }
+    ensures plain { OnOk result (Each HasPlainNames (laid_of side.old.side.now).leaves) }
+    ensures err { IfErr result (WhyNotFollowed (D.file desk.old run.now.events.now)
+        (Rose (D.faults desk.old run.now.events.now) (D.faults desk.new run.now.events.now)) (machine_of side.old.side.now).layout) }
+    ensures stops { IfErr result (StopsWatched (D.file desk.old run.now.events.now) run.now.turns side.old.side.now
+        (λ heard. side.new.watch.now ≡ fold W.told side.old.watch.now heard)) }
+    ensures files { (other : List ℕ) → D.file desk.new other ≡ D.file desk.old other }
+    ensures later { (other : List ℕ) → D.faults desk.old other ≤ D.faults desk.new other }
+{
+    heard_in_order();
+    watch_is_told::<W>();
+    traced(alloc, desk, side, run.events, run.turns)
+}
+
+/// The trace of a side over the events of a file. The watch is told what is heard of its scans.
 fn watched<D: Desk, W: Watch>(
     alloc: Global,
     desk: &mut D,
@@ -71,7 +98,8 @@ fn watched<D: Desk, W: Watch>(
     run: &Run<'_>,
     watch: &mut W,
 ) -> Result<Vec<u8>, RunError>
-    requires { last_of side.old ≡ 0 }
+    requires time { last_of side.old ≡ 0 }
+    requires stands { (g : Begun DiagramState) × StandsFor side.old g }
     ensures ok { IfOk result (λ text. IsWatchedTrace (D.file desk.old run.now.events.now) run.now.turns side.old
         (λ heard. watch.new ≡ fold W.told watch.old heard) text.items) }
     ensures plain { OnOk result (Each HasPlainNames (laid_of side.old).leaves) }
@@ -79,12 +107,11 @@ fn watched<D: Desk, W: Watch>(
         (Rose (D.faults desk.old run.now.events.now) (D.faults desk.new run.now.events.now)) (machine_of side.old).layout) }
     ensures stops { IfErr result (StopsWatched (D.file desk.old run.now.events.now) run.now.turns side.old
         (λ heard. watch.new ≡ fold W.told watch.old heard)) }
+    ensures files { (other : List ℕ) → D.file desk.new other ≡ D.file desk.old other }
+    ensures later { (other : List ℕ) → D.faults desk.old other ≤ D.faults desk.new other }
 {
-    watched_runs::<W>();
-    heard_in_order();
-    watch_is_told::<W>();
     let mut watched = Watched::new(side, watch);
-    traced(alloc, desk, &mut watched, run.events, run.turns)
+    listened(alloc, desk, &mut watched, run)
 }
 
 /// The trace of a program that there is.
