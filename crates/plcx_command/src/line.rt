@@ -60,7 +60,11 @@ fn counted_line(alloc: Global, programs: u64) -> Result<String, NoMemory>
 }
 
 /// The line where a program isn't there: its name, or how many there are where none is named.
-pub fn program_line(alloc: Global, program: Option<&str>, programs: u64) -> Result<Vec<u8>, NoMemory>
+pub fn program_line(
+    alloc: Global,
+    program: Option<&str>,
+    programs: u64,
+) -> Result<Vec<u8>, NoMemory>
     ensures { IfOk result (λ line. line.items ≡ program_line (option_map (λ s. s.now) program.entry) programs) }
 {
     match program {
