@@ -1,14 +1,12 @@
 -- What elements have, one after another.
-use Rattle.std.proofs.Common.{◌≡◌, ◌∙◌, ℕ, zero, suc, ◌+◌, ◌<◌, List, [], ◌∷◌, ◌++◌, Option, Some, None, map, take, get_or, length, refl, sym, ap, ap₂, subst, arith, append_assoc}
+use Rattle.std.proofs.Common.{◌≡◌, ◌∙◌, ℕ, ◌+◌, ◌<◌, List, [], ◌∷◌, ◌++◌, Option, Some, None, map, take, get_or, length, refl, sym, ap, subst, arith, append_assoc}
 use Rattle.std.specs.Prelude.{max, pos}
-use Rattle.std.specs.List.{flat_map, filter_map, slice_get}
+use Rattle.std.specs.List.{flat_map, slice_get}
 use Rattle.std.proofs.lemmas.List.{append-nil, map-append, take_more}
 use Rattle.std.proofs.lemmas.List.Elements.{filter_map-append}
-use Rattle.plcx_types.specs.Value.{Value}
 use Rattle.plcx_funcs.specs.Applied.{value}
 use Rattle.plcx_meaning.specs.Diagram.{Port, ports, DiagramElement}
 use Rattle.plcx_meaning.specs.Evaluate.{leads_to}
-use Rattle.plcx_steps.specs.declared.program.Jump.{Jump}
 use Rattle.plcx_numbered.specs.Prepared.{Numbering, spares}
 use Rattle.plcx_numbered.specs.Right.{lead, leaps}
 use Rattle.plcx_numbered.specs.Numbers.{spare_wires}

@@ -1,9 +1,9 @@
 -- A network stays where it is as the lists of its program grow.
-use Rattle.std.proofs.Common.{◌≡◌, ℕ, zero, suc, ◌+◌, ◌-◌, ◌≤◌, List, [], ◌∷◌, ◌++◌, length, length-append, take, drop, refl, sym, ap, ◌∙◌, subst, arith, append_assoc}
+use Rattle.std.proofs.Common.{◌≡◌, ◌+◌, ◌-◌, ◌≤◌, List, ◌++◌, length, length-append, take, drop, sym, ap, ◌∙◌, subst, arith, append_assoc}
 use Rattle.std.proofs.Math.Seq.{drop-append_seam, take-append_seam}
 use Rattle.plcx_meaning.specs.Diagram.{DiagramElement, Pou, Project}
 use Rattle.plcx_steps.specs.declared.program.Program.{Program}
-use Rattle.plcx_numbered.specs.Prepared.{elements_steps, elements_arguments, elements_bindings}
+use Rattle.plcx_numbered.specs.Prepared.{elements_arguments, elements_bindings}
 use Rattle.plcx_numbered.specs.Right.{HasAt}
 use Rattle.plcx_numbered.specs.Numbers.{numbering}
 use Rattle.plcx_numbered.specs.Programs.{IsNetworkOf}

@@ -1,5 +1,5 @@
 -- Where the wires and in-outs of bodies stand.
-use Rattle.std.specs.Prelude.{◌≡◌, ◌+◌, ◌<◌, ◌≤◌, ℕ, List, Option, Some, None, length, map, slice_get}
+use Rattle.std.specs.Prelude.{◌≡◌, ◌+◌, ◌<◌, ◌≤◌, ℕ, List, Option, Some, None, length, slice_get}
 use Rattle.std.specs.List.{AllZip}
 use Rattle.plcx_types.specs.Lists.{Each}
 use Rattle.plcx_steps.specs.declared.program.Network.{Network}

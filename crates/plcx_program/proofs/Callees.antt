@@ -1,5 +1,5 @@
 -- A block that is called has a lower level.
-use Rattle.std.proofs.Common.{◌≡◌, ℕ, suc, ◌<◌, ◌≤◌, List, Option, Some, None, sym, ap, ◌∙◌, subst, arith}
+use Rattle.std.proofs.Common.{◌≡◌, ℕ, suc, ◌<◌, ◌≤◌, Option, Some, None, sym, ap, ◌∙◌, arith}
 use Rattle.std.specs.Prelude.{slice_get}
 use Rattle.std.specs.List.{Contains}
 use Rattle.std.specs.Coded.{le_prop}
@@ -7,7 +7,7 @@ use Rattle.std.proofs.Math.Logic.{∥∥₁_elim}
 use Rattle.std.proofs.lemmas.Option.{same_Some}
 use Rattle.plcx_types.specs.Name.{in_lower_case}
 use Rattle.plcx_meaning.specs.Layout.{Variable, variables_of, variable_named}
-use Rattle.plcx_meaning.specs.Diagram.{Pou, Project, block_named}
+use Rattle.plcx_meaning.specs.Diagram.{Pou, Project}
 use Rattle.plcx_meaning.specs.Evaluate.{place_named}
 use Rattle.plcx_meaning.specs.Fits.{PouFits, PouNests, ProjectFits}
 use Rattle.plcx_meaning.proofs.Lists.{each_at}

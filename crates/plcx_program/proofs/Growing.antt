@@ -1,9 +1,7 @@
 -- Networks and bodies stay what they are as more are made.
-use Rattle.std.proofs.Common.{◌≡◌, ℕ, suc, ◌+◌, ◌<◌, List, [], ◌∷◌, ◌++◌, take, get_or, map, length, Some, refl, sym, ap, ◌∙◌, subst}
+use Rattle.std.proofs.Common.{◌≡◌, ℕ, ◌+◌, ◌<◌, List, [], ◌∷◌, ◌++◌, take, get_or, map, length, sym, subst}
 use Rattle.std.specs.List.{AllZip}
 use Rattle.plcx_meaning.specs.Diagram.{DiagramElement, Pou, Project}
-use Rattle.plcx_steps.specs.declared.program.Network.{Network}
-use Rattle.plcx_steps.specs.declared.program.Body.{Body}
 use Rattle.plcx_steps.specs.declared.program.Program.{Program}
 use Rattle.plcx_numbered.specs.Numbers.{numbering}
 use Rattle.plcx_numbered.specs.Programs.{IsNetworkOf}
@@ -14,7 +12,7 @@ use Rattle.plcx_bodies.specs.declared.networks.Shared.{Shared}
 use Rattle.plcx_bodies.proofs.Standing.{made_stands, begun_before}
 use Rattle.plcx_program.specs.declared.networks.Networks.{Networks}
 use Rattle.plcx_program.specs.declared.bodies.Bodies.{Bodies}
-use Rattle.plcx_program.specs.Bodies.{Continues, AddsNetwork, HasNetworks, IsUnframed, AddsBody, HasBodies}
+use Rattle.plcx_program.specs.Bodies.{AddsNetwork, HasNetworks, IsUnframed, AddsBody, HasBodies}
 use Rattle.plcx_program.proofs.Zips.{zip_more}
 
 -- what is made by a POU's numbers is a network more

@@ -1,19 +1,18 @@
 -- Bodies with their places are a program.
-use Rattle.std.proofs.Common.{◌≡◌, ℕ, zero, suc, ◌+◌, ◌<◌, ◌≤◌, List, [], ◌∷◌, Some, refl, sym, ap, ◌∙◌, subst, arith}
-use Rattle.std.specs.Prelude.{slice_get, length}
+use Rattle.std.proofs.Common.{◌≡◌, ℕ, zero, suc, ◌<◌, List, [], ◌∷◌, Some, sym, ap, ◌∙◌, subst, arith}
+use Rattle.std.specs.Prelude.{slice_get}
 use Rattle.std.specs.List.{AllZip, Contains}
 use Rattle.std.proofs.lemmas.Option.{same_Some}
 use Rattle.plcx_types.specs.Lists.{Each}
-use Rattle.plcx_meaning.specs.Layout.{Variable, variables_of}
-use Rattle.plcx_meaning.specs.Diagram.{Pou, Project, has_jump}
+use Rattle.plcx_meaning.specs.Diagram.{Pou, Project}
 use Rattle.plcx_meaning.specs.Evaluate.{place_named}
 use Rattle.plcx_meaning.specs.Fits.{ProjectFits}
 use Rattle.plcx_meaning.proofs.Lists.{each_at, each_from}
 use Rattle.plcx_steps.specs.declared.program.Network.{Network}
 use Rattle.plcx_steps.specs.declared.program.Body.{Body}
 use Rattle.plcx_steps.specs.declared.program.Program.{Program}
-use Rattle.plcx_numbered.specs.Numbers.{user_of, level, inner_depth}
-use Rattle.plcx_numbered.specs.Programs.{IsNetworkOf, IsFrameOf, IsBodyOf, IsProgramOf}
+use Rattle.plcx_numbered.specs.Numbers.{level, inner_depth}
+use Rattle.plcx_numbered.specs.Programs.{IsNetworkOf, IsBodyOf, IsProgramOf}
 use Rattle.plcx_bodies.specs.Framed.{IsWithin, IsFramed, StandsBehind, AreFramed}
 use Rattle.plcx_program.specs.Bodies.{IsUnframed}
 use Rattle.plcx_program.proofs.Zips.{zip_there, zip_through}

@@ -11,14 +11,14 @@ use Rattle.plcx_meaning.specs.Diagram.{Port, DiagramElement, Pou, Project, has_e
 use Rattle.plcx_meaning.specs.Evaluate.{world_of}
 use Rattle.plcx_meaning.specs.Layout.{Variable, variables_of}
 use Rattle.plcx_numbered.specs.Agreeing.{Cell}
-use Rattle.plcx_numbered.specs.Numbers.{variable_places, places, element_cells, cells, instance_cells, highest, instance_level, level, leaf_count, cell_count, places_of, depth, inner_depth}
+use Rattle.plcx_numbered.specs.Numbers.{variable_places, places, element_cells, cells, instance_cells, highest, instance_level, level, places_of, depth, inner_depth}
 use Rattle.plcx_tables.specs.declared.levels.Rule.TheVariants.{Leaves, Memories, Levels}
 use Rattle.plcx_tables.specs.declared.own.Own.{Own}
 use Rattle.plcx_tables.specs.declared.placed.Table.{Table}
 use Rattle.plcx_tables.specs.Telling.{Told, told}
 use Rattle.plcx_tables.specs.Owned.{IsOwn, AreOwn, places_of as at_places, outputs_of, remembered, remembered_by}
 use Rattle.plcx_tables.specs.Levels.{user, leaf_weight, memory_weight, level_weight, greatest, leaves_of, memories_of, level_of, stepped, repeated}
-use Rattle.plcx_tables.specs.Tabled.{IsPlaced, ArePlaced, deep_leaves, deep_memories, deep_levels}
+use Rattle.plcx_tables.specs.Tabled.{IsPlaced, deep_leaves, deep_memories, deep_levels}
 use Rattle.plcx_tables.proofs.Meant.{or_zero, leaves_to, memories_to, leaf_is, first_leaf_is, memory_is, level_is}
 
 -- ---- sums over what is told

@@ -1,7 +1,6 @@
 -- The names of drawn POUs are those of their diagrams.
 use Rattle.std.proofs.Common.{◌≡◌, ℕ, ◌+◌, Bool, true, false, cond, List, [], ◌∷◌, length, map, Option, Some, None, unwrap_or, refl, sym, ap, ap₂, ◌∙◌, arith}
 use Rattle.std.specs.List.{position_from}
-use Rattle.plcx_meaning.specs.Diagram as diagram
 use Rattle.plcx_meaning.specs.Diagram.{Project, is_program}
 use Rattle.plcx_meaning.specs.Evaluate.{place_named}
 use Rattle.plcx_model.specs.declared.project.Pou.{Pou}

@@ -1,5 +1,5 @@
 -- Keys are equal where what they stand for is the same.
-use Rattle.std.proofs.Common.{◌≡◌, ℕ, Bool, true, false, List, refl, sym, ap, ◌∙◌, ◌&&◌}
+use Rattle.std.proofs.Common.{◌≡◌, ℕ, true, List, refl, ◌&&◌}
 use Rattle.std.specs.Prelude.{nat_eq}
 use Rattle.std.specs.Cmp.{IsEquivalence, nat_eq_equiv, and_equiv}
 use Rattle.plcx_meaning.specs.Base.{Memory, AtEdge, AtOutput, same_memory}
@@ -8,7 +8,6 @@ use Rattle.plcx_tables.specs.declared.keys.Key.{Key}
 use Rattle.plcx_tables.specs.declared.keys.Key.TheVariants.{Edge, Output}
 use Rattle.plcx_tables.specs.declared.names.Name.{Name}
 use Rattle.plcx_tables.specs.Alike.{names_alike}
-use Rattle.plcx_tables.specs.Named.{memory_of}
 
 pub texts_alike : IsEquivalence same_name
 texts_alike = names_alike (λ t. t)

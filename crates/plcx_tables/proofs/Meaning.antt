@@ -1,7 +1,7 @@
 -- The numbers by the tables of a project's POUs are those of its diagrams.
-use Rattle.std.proofs.Common.{◌≡◌, ℕ, zero, suc, ◌+◌, Bool, true, false, List, [], ◌∷◌, length, map, filter, Option, Some, None, is_some, option_and_then, unwrap_or, refl, sym, ap, ap₂, ◌∙◌, subst, arith}
+use Rattle.std.proofs.Common.{◌≡◌, ℕ, suc, ◌+◌, Bool, true, false, List, [], ◌∷◌, length, map, filter, Option, Some, None, is_some, option_and_then, unwrap_or, refl, sym, ap, ap₂, ◌∙◌, subst, arith}
 use Rattle.std.specs.Prelude.{slice_get, if◌then◌else◌}
-use Rattle.std.specs.List.{flat_map, sum_by, position_from, find, AllZip}
+use Rattle.std.specs.List.{flat_map, sum_by, position_from, find}
 use Rattle.std.specs.Str.{bytes_eq}
 use mathlib.Core.Path.{fun_ext}
 use Rattle.std.proofs.lemmas.List.{length-map}
@@ -13,17 +13,16 @@ use Rattle.plcx_types.specs.Lists.{Each}
 use Rattle.plcx_std.specs.declared.kind.StdKind.{StdKind}
 use Rattle.plcx_std.specs.declared.kind.StdKind.TheVariants as kind
 use Rattle.plcx_std.specs.Kind.{kind_named}
-use Rattle.plcx_std.specs.Pins.{Pin, pins}
 use Rattle.plcx_meaning.specs.Base.{Memory, same_memory}
 use Rattle.plcx_meaning.specs.Diagram.{DiagramElement, Pou, Project, block_named}
 use Rattle.plcx_meaning.specs.Evaluate.{is_in_out, place_named, world_of}
-use Rattle.plcx_meaning.specs.Layout.{Variable, variables_of, variable_named, World, Elementary, Composed, meaning, composed, parts, parts_of}
+use Rattle.plcx_meaning.specs.Layout.{Variable, variables_of, variable_named, meaning, composed, parts, parts_of}
 use Rattle.plcx_meaning.specs.Standard.{pin_blocks}
 use Rattle.plcx_rules.specs.Texts.{same_name}
 use Rattle.plcx_steps.specs.declared.program.Operand.{Operand}
 use Rattle.plcx_steps.specs.declared.program.Operand.TheVariants.{Leaf, InOut}
 use Rattle.plcx_numbered.specs.Prepared.{Numbering, Callee, Block, User}
-use Rattle.plcx_numbered.specs.Numbers.{first_leaf, leaf_count, cell_count, number_of, in_out_names, callee_of, numbering, pins_of, element_cells, cells, level, places_of, depth, inner_depth}
+use Rattle.plcx_numbered.specs.Numbers.{first_leaf, leaf_count, cell_count, number_of, in_out_names, callee_of, numbering, element_cells, cells, level, places_of, depth, inner_depth}
 use Rattle.plcx_numbered.proofs.Leaves.{composed_user, composed_standard, meant_by}
 use Rattle.plcx_prepare.specs.Called.{key_of}
 use Rattle.plcx_tables.specs.declared.keys.Key.{Key}

@@ -1,11 +1,8 @@
 -- What the tables of a project's POUs tell is what its diagrams mean: how many leaves, memories and levels of blocks they have.
-use Rattle.std.proofs.Common.{◌≡◌, ℕ, zero, suc, ◌+◌, Bool, true, false, cond, List, [], ◌∷◌, ◌++◌, length, map, Option, Some, None, is_some, option_map, option_and_then, refl, sym, ap, ap₂, ◌∙◌, subst, arith, nat_eq}
+use Rattle.std.proofs.Common.{◌≡◌, ℕ, zero, suc, ◌+◌, Bool, true, false, cond, List, [], ◌∷◌, ◌++◌, length, map, Option, Some, None, is_some, option_and_then, refl, sym, ap, ap₂, ◌∙◌, arith}
 use Rattle.std.specs.Prelude.{slice_get, slice_index, not, ◌&&◌, if◌then◌else◌}
-use Rattle.std.specs.List.{flat_map, sum_by, position_from, find, AllZip}
-use Rattle.std.specs.Str.{bytes_eq}
-use Rattle.std.proofs.lemmas.List.{length-append, length-map}
-use Rattle.std.proofs.lemmas.List.Sums.{sum_by-cons}
-use Rattle.std.proofs.lemmas.List.Concat.{length-flat_map}
+use Rattle.std.specs.List.{position_from, find}
+use Rattle.std.proofs.lemmas.List.{length-map}
 use Rattle.plcx_types.specs.declared.ty.Ty.{Ty}
 use Rattle.plcx_types.specs.Name.{in_lower_case}
 use Rattle.plcx_types.specs.TypeName.{type_named}
@@ -15,16 +12,16 @@ use Rattle.plcx_std.specs.Kind.{kind_named}
 use Rattle.plcx_std.specs.Pins.{pins}
 use Rattle.plcx_meaning.specs.Diagram.{Pou, Project, block_named, is_program}
 use Rattle.plcx_meaning.specs.Evaluate.{world_of}
-use Rattle.plcx_meaning.specs.Layout.{Variable, variables_of, World, Meaning, Elementary, Composed, meaning, composed, is_kept}
+use Rattle.plcx_meaning.specs.Layout.{Variable, variables_of, World, Meaning, Elementary, Composed, composed, is_kept}
 use Rattle.plcx_meaning.specs.Standard.{pin_blocks}
 use Rattle.plcx_rules.specs.Texts.{same_name}
 use Rattle.plcx_numbered.specs.Agreeing.{Cell}
-use Rattle.plcx_numbered.specs.Numbers.{Place, behind, variable_places, places, cells, user_of, instance_cells, cells_behind, highest, instance_level, level, leaf_count, cell_count}
+use Rattle.plcx_numbered.specs.Numbers.{Place, behind, variable_places, places, cells, user_of, instance_cells, cells_behind, instance_level, level}
 use Rattle.plcx_numbered.proofs.Leaves.{composed_user, composed_standard, meant_by}
 use Rattle.plcx_names.proofs.Finding.{at_place}
 use Rattle.plcx_tables.specs.Tables.{has_key, first_place}
-use Rattle.plcx_tables.specs.Telling.{Told, told, block_names}
-use Rattle.plcx_tables.specs.Levels.{user, leaf_weight, memory_weight, level_weight, greatest}
+use Rattle.plcx_tables.specs.Telling.{told, block_names}
+use Rattle.plcx_tables.specs.Levels.{user, leaf_weight, memory_weight, level_weight}
 
 -- ---- blocks by their places
 

@@ -1,5 +1,5 @@
 -- Names are one where they are alike but for the case of their letters, and are hashed alike then.
-use Rattle.std.specs.Prelude.{◌≡◌, ℕ, Bool, true, List, IsTrue}
+use Rattle.std.specs.Prelude.{◌≡◌, ℕ, List, IsTrue}
 use Rattle.std.specs.List.{flat_map}
 use Rattle.std.specs.Hash as fed
 use Rattle.std.specs.Cmp.{IsEquivalence, IsPartialEquivalence, on_equiv, partial_equiv_from_equiv}

@@ -1,5 +1,5 @@
 -- The numbers that a network of a POU uses, by the tables of all POUs and that of its wires.
-use Rattle.std.specs.Prelude.{◌≡◌, ◌+◌, ◌<◌, ◌^◌, ℕ, List, [], ◌++◌, Option, Some, None, map, unwrap_or, slice_get, if◌then◌else◌}
+use Rattle.std.specs.Prelude.{◌≡◌, ◌+◌, ◌<◌, ◌^◌, ℕ, List, [], Option, Some, None, map, unwrap_or, slice_get, if◌then◌else◌}
 use Rattle.std.specs.List.{flat_map}
 use Rattle.plcx_std.specs.declared.kind.StdKind.TheVariants as kind
 use Rattle.plcx_meaning.specs.Base.{Memory, AtOutput, same_memory}

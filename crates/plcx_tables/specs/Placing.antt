@@ -1,10 +1,9 @@
 -- Where the leaves, memories and in-outs of a POU are, by its table.
-use Rattle.std.specs.Prelude.{◌≡◌, ℕ, ◌+◌, Bool, true, List, [], ◌∷◌, Option, Some, None, length, map, option_and_then, unwrap_or, slice_get, slice_index, if◌then◌else◌}
+use Rattle.std.specs.Prelude.{ℕ, ◌+◌, true, List, [], ◌∷◌, Some, None, length, unwrap_or, slice_index, if◌then◌else◌}
 use Rattle.std.specs.List.{position_from}
 use Rattle.plcx_std.specs.declared.kind.StdKind.{StdKind}
 use Rattle.plcx_std.specs.Pins.{Pin, pins}
 use Rattle.plcx_rules.specs.Texts.{same_name}
-use Rattle.plcx_tables.specs.declared.own.Own.{Own}
 use Rattle.plcx_tables.specs.declared.placed.Placed.{Placed}
 use Rattle.plcx_tables.specs.declared.variables.Declared.{Declared}
 use Rattle.plcx_tables.specs.Telling.{Told, shown}

@@ -1,5 +1,5 @@
 -- The tables of POUs.
-use Rattle.std.specs.Prelude.{◌≡◌, ℕ, Bool, true, false, List, [], ◌∷◌, Option, Some, None, option_and_then, slice_get}
+use Rattle.std.specs.Prelude.{◌≡◌, ℕ, true, false, List, [], Option, Some, None, option_and_then, slice_get}
 use Rattle.std.specs.List.{AllZip}
 use Rattle.plcx_rules.specs.Texts.{same_name}
 use Rattle.plcx_tables.specs.declared.levels.Rule.TheVariants.{Leaves, Memories, Levels}

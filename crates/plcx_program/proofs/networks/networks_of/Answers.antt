@@ -1,4 +1,4 @@
-use Rattle.std.proofs.Common.{◌∙◌, ℕ, List, get_or, map, sym, ap, subst}
+use Rattle.std.proofs.Common.{◌∙◌, ℕ, List, map, sym, subst}
 use Rattle.std.proofs.lemmas.List.{take_all}
 use Rattle.plcx_types.specs.Lists.{Each}
 use Rattle.plcx_drawn.specs.Shown.{shown_network}

@@ -2,7 +2,7 @@ use Rattle.std.proofs.Common.{◌∙◌, List, [], map, sym, subst}
 use Rattle.std.specs.List.{AllZip}
 use Rattle.std.proofs.lemmas.List.{append-nil}
 use Rattle.plcx_types.specs.Lists.{Each}
-use Rattle.plcx_meaning.specs.Diagram.{Pou, Project}
+use Rattle.plcx_meaning.specs.Diagram.{Pou}
 use Rattle.plcx_drawn.specs.Pous.{shown_pou}
 use Rattle.plcx_prepare.specs.Literals.{ElementHasLiterals}
 use Rattle.plcx_bodies.specs.Made.{Begins}

@@ -1,7 +1,5 @@
-use Rattle.std.proofs.Common.{◌≡◌, refl, Some}
+use Rattle.std.proofs.Common.{refl, Some}
 use Rattle.plcx_meaning.specs.Base.{same_memory}
-use Rattle.plcx_tables.specs.declared.keys.Key.{Key}
-use Rattle.plcx_tables.specs.declared.keys.Key.TheVariants.{Edge, Output}
 use Rattle.plcx_tables.specs.Named.{memory_of}
 use Rattle.plcx_tables.proofs.Growing.{more_told}
 use Rattle.plcx_tables.proofs.Equals.{memories_alike, by_keys}

@@ -1,8 +1,5 @@
-use Rattle.std.proofs.Common.{map}
-use Rattle.std.specs.List.{flat_map}
 use Rattle.plcx_drawn.specs.declared.element.Element.{Element}
 use Rattle.plcx_drawn.specs.Shown.{shown_element}
-use Rattle.plcx_meaning.specs.Base.{Memory}
 use Rattle.plcx_tables.specs.Named.{MemoriesTold}
 use Rattle.plcx_tables.specs.Owned.{places_of, remembered_by}
 use Rattle.plcx_tables.proofs.Walks.{step_flat, all_flat}

@@ -1,4 +1,4 @@
-use Rattle.std.proofs.Common.{map, take}
+use Rattle.std.proofs.Common.{take}
 use Rattle.std.specs.List.{flat_map}
 use Rattle.plcx_drawn.specs.declared.element.Element.{Element}
 use Rattle.plcx_drawn.specs.Shown.{shown_element}

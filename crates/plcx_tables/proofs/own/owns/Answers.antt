@@ -2,7 +2,6 @@ use Rattle.std.proofs.Common.{◌+◌, ◌++◌, ◌∷◌, [], List, map, take,
 use Rattle.std.specs.List.{AllZip}
 use Rattle.plcx_meaning.specs.Diagram.{Pou}
 use Rattle.plcx_drawn.specs.Pous.{shown_pou}
-use Rattle.plcx_tables.specs.declared.own.Own.{Own}
 use Rattle.plcx_tables.specs.Owned.{IsOwn}
 use Rattle.plcx_tables.proofs.Walks.{made, pairs_push}
 use Rattle.plcx_tables.proofs.own.owns.Goals as goal

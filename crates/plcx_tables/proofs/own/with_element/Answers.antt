@@ -1,10 +1,9 @@
-use Rattle.std.proofs.Common.{◌++◌, ◌∷◌, [], List, map, ap, sym, ◌∙◌, subst, append_assoc, cond}
+use Rattle.std.proofs.Common.{◌++◌, ◌∷◌, [], sym, ◌∙◌, subst}
 use Rattle.std.specs.Prelude.{Some}
-use Rattle.std.proofs.lemmas.List.{map-append, append-nil}
-use Rattle.plcx_meaning.specs.Base.{Memory, AtEdge}
-use Rattle.plcx_drawn.specs.Shown.{shown_port}
+use Rattle.std.proofs.lemmas.List.{map-append}
+use Rattle.plcx_meaning.specs.Base.{AtEdge}
 use Rattle.plcx_tables.specs.Named.{MemoriesTold}
-use Rattle.plcx_tables.specs.Owned.{places_of, outputs_of}
+use Rattle.plcx_tables.specs.Owned.{places_of}
 use Rattle.plcx_tables.proofs.Listed.{edged_memories}
 use Rattle.plcx_tables.proofs.own.with_element.Goals as goal
 

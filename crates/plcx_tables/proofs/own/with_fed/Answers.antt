@@ -1,8 +1,5 @@
-use Rattle.std.proofs.Common.{◌++◌, map, ap, ◌∙◌, sym, subst}
-use Rattle.std.specs.Prelude.{Option}
+use Rattle.std.proofs.Common.{◌++◌, map, subst}
 use Rattle.std.proofs.lemmas.List.{take_all}
-use Rattle.plcx_meaning.specs.Base.{Memory, AtOutput}
-use Rattle.plcx_drawn.specs.declared.element.Port.{Port}
 use Rattle.plcx_drawn.specs.Shown.{shown_port}
 use Rattle.plcx_tables.specs.Named.{MemoriesTold}
 use Rattle.plcx_tables.specs.Owned.{places_of, outputs_of}

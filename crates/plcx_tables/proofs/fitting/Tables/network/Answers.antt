@@ -1,4 +1,4 @@
-use Rattle.std.proofs.Common.{List, map, refl, sym, subst}
+use Rattle.std.proofs.Common.{List, refl, sym, subst}
 use Rattle.plcx_drawn.specs.declared.element.Element.{Element}
 use Rattle.plcx_targets.specs.Labels.{network_of}
 use Rattle.plcx_tables.specs.Named.{MemoriesTold}
