@@ -1,4 +1,4 @@
 mod Remembering
-pub mod Drawn
+pub mod Places
 pub mod Propositions
 pub mod Layouts

@@ -18,6 +18,7 @@ use plcx_layout::{leaves_are_laid, leaves_stand, program_leaves, program_memorie
 use plcx_model::{Pou, PouKind};
 use plcx_scan::OpenError;
 use plcx_state::Layout;
+use plcx_stored::one_agreement;
 use plcx_types::{Ident, NoMemory};
 use std::alloc::Global;
 
@@ -42,8 +43,13 @@ pub fn program_place(checked: &Checked, name: &Ident) -> Option<u32>
         (program_named name.now (diagrams_of checked.now.project checked.now.links checked.now.types checked.now.plan) ≡ None)
         (IsProgramAt (diagrams_of checked.now.project checked.now.links checked.now.types checked.now.plan) name.now) }
 {
-    let place = place_among(checked.project().pous(), name)?;
-    Some(place as u32)
+    match place_among(checked.project().pous(), name) {
+        None => None,
+        Some(place) => {
+            let number = place as u32;
+            Some(number)
+        }
+    }
 }
 
 /// The layout of the POU at a place as a program, by the drawings of all POUs. More memories than 32 bits count would
@@ -62,6 +68,7 @@ pub fn layout_at(
     leaves_are_laid();
     leaves_stand();
     memories_are_laid();
+    one_agreement();
     let pous = checked.project().pous();
     let leaves = program_leaves(alloc, pous, &pous[place as usize])?;
     let memories = program_memories(alloc, pous, drawings, place)?;
@@ -85,5 +92,6 @@ pub fn diagram_layout(
         return Err(OpenError::NoProgram);
     };
     let drawings = drawings(alloc, checked)?;
-    Ok(layout_at(alloc, checked, &drawings, place)?)
+    let layout = layout_at(alloc, checked, &drawings, place)?;
+    Ok(layout)
 }
