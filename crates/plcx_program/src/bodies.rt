@@ -66,7 +66,8 @@ pub(crate) fn bodies_of(
     drawings: &[Drawing],
 ) -> Result<Bodies, NoMemory>
     requires { Each HaveLiterals drawings.now }
-    ensures { IfOk result (λ all. (pous : List Pou) → AreTablesOf (map (shown_pou pous) drawings.now) tables.now.tables.now → HasBodies (map (shown_pou pous) drawings.now) (map (shown_pou pous) drawings.now) all) }
+    ensures { IfOk result (λ all. (pous : List Pou) → AreTablesOf (map (shown_pou pous) drawings.now) tables.now.tables.now
+        → HasBodies (map (shown_pou pous) drawings.now) (map (shown_pou pous) drawings.now) all) }
 {
     let mut all = Bodies {
         items: Vec::new(alloc),

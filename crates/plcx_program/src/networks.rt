@@ -33,7 +33,8 @@ fn with_network(
 ) -> Result<Networks, NoMemory>
     requires literals { Each ElementHasLiterals (shown_network drawing.now places.now) }
     requires targets { targets.now ≡ shown_networks drawing.now }
-    ensures { IfOk result (λ after. (project : Project) (p : Pou) → IsDrawn project tables.now.tables.now place drawing.now p → AddsNetwork project p (shown_network drawing.now places.now) before after) }
+    ensures { IfOk result (λ after. (project : Project) (p : Pou) → IsDrawn project tables.now.tables.now place drawing.now p
+        → AddsNetwork project p (shown_network drawing.now places.now) before after) }
 {
     let Networks { mut items, shared } = before;
     let numbers = tables.network(alloc, place, drawing, places)?;

@@ -15,7 +15,8 @@ pub(crate) fn with_name<'a>(
     names: Numbered<Name<'a>>,
     name: Option<&'a [u8]>,
 ) -> Result<Numbered<Name<'a>>, NoMemory>
-    ensures { IfOk result (λ after. (texts : List (Option (List ℕ))) → NamesTold names.entry.numbers.entries names.entry.count texts → NamesTold after.numbers.entries after.count (texts ++ option_map (λ n. n.now) name.entry ∷ [])) }
+    ensures { IfOk result (λ after. (texts : List (Option (List ℕ))) → NamesTold names.entry.numbers.entries names.entry.count texts
+        → NamesTold after.numbers.entries after.count (texts ++ option_map (λ n. n.now) name.entry ∷ [])) }
 {
     match name {
         None => Ok(names.with(None)?),
@@ -42,7 +43,8 @@ pub(crate) fn with_memory<'a>(
     memories: Numbered<Key<'a>>,
     key: Key<'a>,
 ) -> Result<Numbered<Key<'a>>, NoMemory>
-    ensures { IfOk result (λ after. (places : List (Option Memory)) → MemoriesTold memories.entry.numbers.entries memories.entry.count places → MemoriesTold after.numbers.entries after.count (places ++ Some (memory_of key.entry) ∷ [])) }
+    ensures { IfOk result (λ after. (places : List (Option Memory)) → MemoriesTold memories.entry.numbers.entries memories.entry.count places
+        → MemoriesTold after.numbers.entries after.count (places ++ Some (memory_of key.entry) ∷ [])) }
 {
     Ok(memories.with(Some(key))?)
 }

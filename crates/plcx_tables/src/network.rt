@@ -41,7 +41,8 @@ fn with_element<'d>(
     id: u64,
     kind: &ElementKind<'d>,
 ) -> Result<Numbered<Key<'d>>, NoMemory>
-    ensures { IfOk result (λ more. (before : List Memory) → MemoriesTold outputs.entry.numbers.entries outputs.entry.count (places_of before) → MemoriesTold more.numbers.entries more.count (places_of (before ++ outputs_of id (ports (shown_kind kind.now))))) }
+    ensures { IfOk result (λ more. (before : List Memory) → MemoriesTold outputs.entry.numbers.entries outputs.entry.count (places_of before)
+        → MemoriesTold more.numbers.entries more.count (places_of (before ++ outputs_of id (ports (shown_kind kind.now))))) }
 {
     let ports = ports(alloc, kind)?;
     Ok(with_fed(outputs, id, &ports)?)
@@ -56,7 +57,8 @@ fn with_place<'d>(
     elements: &[Element<'d>],
     place: u32,
 ) -> Result<Numbered<Key<'d>>, NoMemory>
-    ensures { IfOk result (λ more. (ms : List Memory) → MemoriesTold before.entry.numbers.entries before.entry.count (places_of ms) → MemoriesTold more.numbers.entries more.count (places_of (ms ++ outputs (network_of elements.now (place ∷ []))))) }
+    ensures { IfOk result (λ more. (ms : List Memory) → MemoriesTold before.entry.numbers.entries before.entry.count (places_of ms)
+        → MemoriesTold more.numbers.entries more.count (places_of (ms ++ outputs (network_of elements.now (place ∷ []))))) }
 {
     match element_at(elements, place) {
         None => Ok(before),

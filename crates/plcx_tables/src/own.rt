@@ -38,7 +38,8 @@ fn with_list<'a>(
     named: &Pous,
     list: &'a VarList,
 ) -> Result<Vec<Declared<'a>>, NoMemory>
-    ensures { IfOk result (λ more. (project : Project) → AreNamed project named.now → map shown more.items ≡ map shown all.entry.items ++ map (told project) (block_variables (list_of pous.now list.entry.now))) }
+    ensures { IfOk result (λ more. (project : Project) → AreNamed project named.now
+        → map shown more.items ≡ map shown all.entry.items ++ map (told project) (block_variables (list_of pous.now list.entry.now))) }
 {
     for one in list.variables() {
         all.push(variable_of(pous, named, list.class, one))?;
@@ -92,7 +93,8 @@ pub(crate) fn with_fed<'a>(
     id: u64,
     fed: &[Port<'a>],
 ) -> Result<Numbered<Key<'a>>, NoMemory>
-    ensures { IfOk result (λ more. (before : List Memory) → MemoriesTold memories.entry.numbers.entries memories.entry.count (places_of before) → MemoriesTold more.numbers.entries more.count (places_of (before ++ outputs_of id (map shown_port fed.now)))) }
+    ensures { IfOk result (λ more. (before : List Memory) → MemoriesTold memories.entry.numbers.entries memories.entry.count (places_of before)
+        → MemoriesTold more.numbers.entries more.count (places_of (before ++ outputs_of id (map shown_port fed.now)))) }
 {
     let mut all = memories;
     for port in fed {
@@ -108,7 +110,8 @@ fn with_element<'a>(
     memories: Numbered<Key<'a>>,
     element: &Element<'a>,
 ) -> Result<Numbered<Key<'a>>, NoMemory>
-    ensures { IfOk result (λ more. (before : List Memory) → MemoriesTold memories.entry.numbers.entries memories.entry.count (places_of before) → MemoriesTold more.numbers.entries more.count (places_of (before ++ remembered_by (shown_element element.now)))) }
+    ensures { IfOk result (λ more. (before : List Memory) → MemoriesTold memories.entry.numbers.entries memories.entry.count (places_of before)
+        → MemoriesTold more.numbers.entries more.count (places_of (before ++ remembered_by (shown_element element.now)))) }
 {
     let id = element.id;
     if has_edge(&element.kind) {
