@@ -3,7 +3,6 @@
 
 use plcx_command::{Status, Words, plcx};
 use plcx_io::{FileDesk, StdSink};
-use plcx_steps::Silent;
 use plcx_types::NoMemory;
 use std::alloc::Global;
 use std::env;
@@ -33,7 +32,6 @@ fn main(rt: HostRuntime) -> ExitCode {
             &mut FileDesk::new(rt),
             &mut StdSink::out(rt),
             &mut StdSink::err(rt),
-            &mut Silent,
         ),
         Err(NoMemory) => Status::NoMemory,
     };

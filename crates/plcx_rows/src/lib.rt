@@ -11,8 +11,6 @@ mod files;
 #[cfg(test)]
 mod functions;
 #[cfg(test)]
-mod runs;
-#[cfg(test)]
 mod tests;
 #[cfg(test)]
 mod values;

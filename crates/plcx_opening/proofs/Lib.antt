@@ -1,4 +1,0 @@
-mod Remembering
-pub mod Places
-pub mod Propositions
-pub mod Layouts
