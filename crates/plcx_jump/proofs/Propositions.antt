@@ -5,7 +5,7 @@ use Rattle.std.specs.Coded.{×_prop, Unit-prop}
 use Rattle.plcx_types.specs.Lists.{Each}
 use Rattle.plcx_meaning.specs.Tree.{Expression, Number, Name, Member, Apply, Not, Binary, Expressions, no_expression, expression, Argument, Statement, Assign, Call, If, While, Case, Statements, no_statement, statement, Arms, no_arm, arm, Declaration, Block}
 use Rattle.plcx_st.specs.InRange.{IsWord, HasAny, ExpressionInRange, ExpressionsInRange, ArgumentInRange, StatementInRange, StatementsInRange, ArmsInRange, DeclarationInRange, BlockInRange}
-use Rattle.plcx_jump.specs.Named.{IsNamed, BlockIsNamed}
+use Rattle.plcx_declare.specs.Named.{IsNamed, BlockIsNamed}
 
 each_prop : {A : Type 0} (P : A → Type 0) (xs : List A) → ((x : A) → IsProp (P x)) → IsProp (Each P xs)
 each_prop P [] prop = Unit-prop

@@ -9,12 +9,12 @@ ghost use Rattle.plcx_drawn.specs.Shown.{shown_element, shown_network, shown_net
 ghost use Rattle.plcx_st.specs.InRange.{StatementInRange, StatementsInRange, ArmsInRange};
 ghost use Rattle.plcx_st.specs.Meant.{expr_meant, stmt_meant};
 ghost use Rattle.plcx_st.specs.Printer.{arm_meant};
-ghost use Rattle.plcx_jump.specs.Labels.{network_of};
+ghost use Rattle.plcx_targets.specs.Labels.{network_of};
 
-use crate::targets::{Targets, element_at};
 use plcx_drawn::{Drawing, Element};
 use plcx_lower::{counter_word, lower_network, lower_networks, number, wire_word};
 use plcx_st::{Arm, Expr, Op, Stmt};
+use plcx_targets::{Targets, element_at};
 use plcx_types::{NoMemory, Span, Ty};
 use sqlite_items::{Boxed, Items};
 use std::alloc::Global;

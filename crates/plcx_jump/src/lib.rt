@@ -6,7 +6,5 @@
 
 mod bodies;
 mod compiling;
-mod declaring;
-mod targets;
 
 pub use compiling::compile;

@@ -69,17 +69,19 @@ bind_is (i ∷ is) key h leaf = by_test (bytes_eq (in_lower_case i.name) key) h 
     by_test true k rest = refl
     by_test false k rest = rest k
 
-bound_in : (bound : List InOutPin) (key : List ℕ) → list_any (λ (i : InOutPin). bytes_eq (in_lower_case i.name) key) bound ≡ true → (i : InOutPin) × Contains bound i × (bound_variable bound key ≡ i.variable)
+-- and that variable is one of those that are listed under the name
+pub bound_in : (bound : List InOutPin) (key : List ℕ) → list_any (λ (i : InOutPin). bytes_eq (in_lower_case i.name) key) bound ≡ true → (i : InOutPin) × Contains bound i × (bound_variable bound key ≡ i.variable) × (in_lower_case i.name ≡ key)
 bound_in [] key h = absurd (cc)
-bound_in (i ∷ is) key h = by_test (bytes_eq (in_lower_case i.name) key) h (λ k. bound_in is key k)
+bound_in (i ∷ is) key h = by_test (bytes_eq (in_lower_case i.name) key) refl h (λ k. bound_in is key k)
   where
-    by_test : (b : Bool) → (b || list_any (λ (j : InOutPin). bytes_eq (in_lower_case j.name) key) is) ≡ true → (list_any (λ (j : InOutPin). bytes_eq (in_lower_case j.name) key) is ≡ true → (j : InOutPin) × Contains is j × (bound_variable is key ≡ j.variable))
-        → (j : InOutPin) × Contains (i ∷ is) j × ((if b then i.variable else bound_variable is key) ≡ j.variable)
-    by_test true k rest = (i, contains_first i is, refl)
-    by_test false k rest = let r = rest k in (r.0, contains_later i is r.0 r.1, r.2)
+    by_test : (b : Bool) → bytes_eq (in_lower_case i.name) key ≡ b → (b || list_any (λ (j : InOutPin). bytes_eq (in_lower_case j.name) key) is) ≡ true
+        → (list_any (λ (j : InOutPin). bytes_eq (in_lower_case j.name) key) is ≡ true → (j : InOutPin) × Contains is j × (bound_variable is key ≡ j.variable) × (in_lower_case j.name ≡ key))
+        → (j : InOutPin) × Contains (i ∷ is) j × ((if b then i.variable else bound_variable is key) ≡ j.variable) × (in_lower_case j.name ≡ key)
+    by_test true e k rest = (i, contains_first i is, refl, bytes_same (in_lower_case i.name) key e)
+    by_test false e k rest = let r = rest k in (r.0, contains_later i is r.0 r.1, r.2, r.3)
 
 -- each in-out of a block is listed
-listed_each : (bound : List InOutPin) (ws : List Variable) → all_listed bound ws ≡ true → Each (λ key. list_any (λ (i : InOutPin). bytes_eq (in_lower_case i.name) key) bound ≡ true) (in_out_names ws)
+pub listed_each : (bound : List InOutPin) (ws : List Variable) → all_listed bound ws ≡ true → Each (λ key. list_any (λ (i : InOutPin). bytes_eq (in_lower_case i.name) key) bound ≡ true) (in_out_names ws)
 listed_each bound [] h = tt
 listed_each bound (w ∷ ws) h = by_class w.class parts.0 (listed_each bound ws parts.1)
   where

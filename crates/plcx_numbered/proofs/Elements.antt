@@ -44,7 +44,7 @@ drop_front (x ∷ xs) ys [] k m e h = absurd (nothing k h)
 drop_front (x ∷ xs) ys (z ∷ zs) zero m e h = absurd (omega (arith, e))
 drop_front (x ∷ xs) ys (z ∷ zs) (suc k) m e h = drop_front xs ys zs k m (omega arith) (ap (drop 1) h)
 
-at_parts : {A : Type 0} (whole : List A) (i : ℕ) (xs ys : List A) → HasAt whole i (xs ++ ys) → HasAt whole i xs × HasAt whole (i + length xs) ys
+pub at_parts : {A : Type 0} (whole : List A) (i : ℕ) (xs ys : List A) → HasAt whole i (xs ++ ys) → HasAt whole i xs × HasAt whole (i + length xs) ys
 at_parts whole i xs ys h =
     let l = length-append xs ys in
     let e : i + length (xs ++ ys) - i ≡ length xs + length ys = omega arith in (

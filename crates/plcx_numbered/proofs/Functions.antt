@@ -23,7 +23,7 @@ use Rattle.plcx_steps.specs.declared.program.Step.{Step}
 use Rattle.plcx_steps.specs.declared.program.Step.TheVariants.{Act, Skip}
 use Rattle.plcx_steps.specs.Numbered.{Numbered, Here, Entered, Frame, frame, bit, number_at, cells_of, source_at, read, argument_at, arguments_at, set_wire, with_value, with_cells, step_in, steps_do}
 use Rattle.plcx_numbered.specs.Agreeing.{AreApart, Shape, IsApart, Lies, Agree, SameInOuts, SameWires, Alike}
-use Rattle.plcx_numbered.specs.Prepared.{off, not_steps, link_steps, enable_steps, enabled, eno_steps, argument_steps, arguments, apply_steps, function_steps}
+use Rattle.plcx_numbered.specs.Prepared.{Numbering, off, not_steps, link_steps, enable_steps, enabled, eno_steps, argument_steps, arguments, apply_steps, function_steps}
 use Rattle.plcx_numbered.specs.Right.{Place, IsWire, RightLink, RightEnable, HasAt}
 use Rattle.plcx_numbered.proofs.Alikes.{both_end, both_stop, alike_then, alike_as, alike_from, steps_append}
 use Rattle.plcx_numbered.proofs.Links.{SameMemories, other_wire, joined, brought, stays}
@@ -61,6 +61,11 @@ negated_has_eno enable h = by_parts enable.en enable.eno h
     by_parts (Some l) eno h = refl
     by_parts None (Some b) h = refl
     by_parts None None h = absurd (cc)
+
+-- each input is an argument
+pub length_arguments : (num : Numbering) (w : ℕ) (ls : List Link) → length (arguments num w ls) ≡ length ls
+length_arguments num w [] = refl
+length_arguments num w (l ∷ ls) = ap suc (length_arguments num (w + 1) ls)
 
 module _ {M : Type 0} (whole : Shape) (apart : IsApart whole) (tell : M → Heard → M) (begun : M) (enter : Entered M) (c : Place) (pins_apart : AreApart c.pins) (spare : length c.pins ≤ c.num.spare) (site : Site) (here : Here)
     (lies : Lies whole c.plan.shape site.path here.at) (same_in_outs : SameInOuts whole c.plan.in_outs site.bound here.in_outs) where
@@ -162,15 +167,11 @@ module _ {M : Type 0} (whole : Shape) (apart : IsApart whole) (tell : M → Hear
         values = ap₂ (λ v vs. v ∷ vs) (ap (λ k. value l.ty k) read_l) r.values;
       }
 
-  length_arguments : (w : ℕ) (ls : List Link) → length (arguments c.num w ls) ≡ length ls
-  length_arguments w [] = refl
-  length_arguments w (l ∷ ls) = ap suc (length_arguments (w + 1) ls)
-
   -- what the function is applied to
   applied_to : (first w : ℕ) (ls : List Link) (vs : List Value) (n : Numbered M) (own : List Value) → HasAt here.program.arguments.items first (arguments c.num w ls) → map (argument_at here (cells_of n own)) (arguments c.num w ls) ≡ vs
       → arguments_at here (cells_of n own) first (length ls) ≡ vs
   applied_to first w ls vs n own has is =
-      ap (λ k. map (argument_at here (cells_of n own)) (slice_range here.program.arguments.items first (first + k))) (sym (length_arguments w ls))
+      ap (λ k. map (argument_at here (cells_of n own)) (slice_range here.program.arguments.items first (first + k))) (sym (length_arguments c.num w ls))
       ∙ ap (map (argument_at here (cells_of n own))) has
       ∙ is
 

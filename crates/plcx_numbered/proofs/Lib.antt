@@ -16,5 +16,6 @@ pub mod Sources
 pub mod Callees
 pub mod Rights
 pub mod Programs
+pub mod Laid
 pub mod Apart
 pub mod Cells

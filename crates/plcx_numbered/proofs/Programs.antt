@@ -196,13 +196,13 @@ module _ (project : Project) (fits : ProjectFits project) (program : Program) wh
       let other = none_passes (bytes_eq (in_lower_case q.name)) (map (λ (r : Pou). in_lower_case r.name) qs) (in_lower_case p.name) parts.0 (contains_map (λ (r : Pou). in_lower_case r.name) qs p (there_at qs k p h)) in
       ap (λ b. if b then 0 else place_named p.name qs + 1) other ∙ ap (λ m. m + 1) (place_of_name qs parts.1 k p h) ∙ (let z : k + 1 ≡ suc k = omega arith in z)
 
-  body_at : (ps : Project) (bodies : List Body) → AllZip (IsBodyOf project program) ps bodies → (k : ℕ) (p : Pou) → slice_get ps k ≡ Some p → (body : Body) × (slice_get bodies k ≡ Some body) × IsBodyOf project program p body
+  pub body_at : (ps : Project) (bodies : List Body) → AllZip (IsBodyOf project program) ps bodies → (k : ℕ) (p : Pou) → slice_get ps k ≡ Some p → (body : Body) × (slice_get bodies k ≡ Some body) × IsBodyOf project program p body
   body_at [] bodies h k p there = absurd (cc)
   body_at (q ∷ qs) [] h k p there = absurd h
   body_at (q ∷ qs) (b ∷ bs) h zero p there = (b, refl, subst (λ r. IsBodyOf project program r b) (same_Some q p there) h.0)
   body_at (q ∷ qs) (b ∷ bs) h (suc k) p there = body_at qs bs h.1 k p there
 
-  plan_at : (ps : Project) (k : ℕ) (plan : Plan) → slice_get (map (plan_of project) ps) k ≡ Some plan → (p : Pou) × (slice_get ps k ≡ Some p) × (plan_of project p ≡ plan)
+  pub plan_at : (ps : Project) (k : ℕ) (plan : Plan) → slice_get (map (plan_of project) ps) k ≡ Some plan → (p : Pou) × (slice_get ps k ≡ Some p) × (plan_of project p ≡ plan)
   plan_at [] k plan h = absurd (cc)
   plan_at (p ∷ ps) zero plan h = (p, refl, same_Some (plan_of project p) plan h)
   plan_at (p ∷ ps) (suc k) plan h = plan_at ps k plan h

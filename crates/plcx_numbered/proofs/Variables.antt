@@ -34,7 +34,7 @@ use Rattle.plcx_numbered.proofs.Nested.{is_user, nests_below}
 elementary_places : (f : List Variable → List Place) (world : World) (v : Variable) (t : Ty) → is_kept v.class ≡ true → type_named v.ty ≡ Some t → variable_places f world v ≡ (in_lower_case v.name ∷ [], t) ∷ []
 elementary_places f world v t kept typed = rw (kept, typed)
 
-composed_places : (f : List Variable → List Place) (world : World) (v : Variable) → is_kept v.class ≡ true → type_named v.ty ≡ None → variable_places f world v ≡ behind (in_lower_case v.name) (f (composed world v.ty))
+pub composed_places : (f : List Variable → List Place) (world : World) (v : Variable) → is_kept v.class ≡ true → type_named v.ty ≡ None → variable_places f world v ≡ behind (in_lower_case v.name) (f (composed world v.ty))
 composed_places f world v kept typed = rw (kept, typed)
 
 -- what is neither an in-out nor a temporary is kept
@@ -75,14 +75,14 @@ module _ (project : Project) (distinct : AreDistinct project) (p : Pou) (fits : 
   found_own key v h = each_at (VariableFits project) vs v fits.variables (variable_there key vs v h)
 
   -- a variable of an elementary type has one leaf
-  own_place : (x : List ℕ) (v : Variable) (t : Ty) → variable_named (in_lower_case x) vs ≡ Some v → type_named v.ty ≡ Some t → is_kept v.class ≡ true → slice_get (places_of project vs) (first (in_lower_case x) vs) ≡ Some (in_lower_case x ∷ [], t)
+  pub own_place : (x : List ℕ) (v : Variable) (t : Ty) → variable_named (in_lower_case x) vs ≡ Some v → type_named v.ty ≡ Some t → is_kept v.class ≡ true → slice_get (places_of project vs) (first (in_lower_case x) vs) ≡ Some (in_lower_case x ∷ [], t)
   own_place x v t found typed kept =
       ap (slice_get (places_of project vs)) (let z : first (in_lower_case x) vs ≡ first (in_lower_case x) vs + 0 = omega arith in z)
       ∙ from_first leaves_of (in_lower_case x) vs v found 0 (in_lower_case x ∷ [], t)
       (ap (λ l. slice_get l 0) (elementary_places (places inner_depth world) world v t kept typed) ∙ ap (λ n. Some (n ∷ [], t)) (found_name (in_lower_case x) vs v found))
 
   -- what lies within an instance, so deep
-  within_steady : (v : Variable) → variable_named (in_lower_case v.name) vs ≡ Some v → type_named v.ty ≡ None → places inner_depth world (composed world v.ty) ≡ places depth world (composed world v.ty)
+  pub within_steady : (v : Variable) → variable_named (in_lower_case v.name) vs ≡ Some v → type_named v.ty ≡ None → places inner_depth world (composed world v.ty) ≡ places depth world (composed world v.ty)
   within_steady v found composite = by_kind (kind_named v.ty) refl (block_named v.ty project) refl
     where
       by_kind : (k : Option StdKind) → kind_named v.ty ≡ k → (b : Option Pou) → block_named v.ty project ≡ b → places inner_depth world (composed world v.ty) ≡ places depth world (composed world v.ty)
@@ -98,7 +98,7 @@ module _ (project : Project) (distinct : AreDistinct project) (p : Pou) (fits : 
           ap (places inner_depth world) c ∙ sym (ap (places depth world) c)
 
   -- an instance is found by its own name
-  found_again : (i : List ℕ) (v : Variable) → variable_named (in_lower_case i) vs ≡ Some v → variable_named (in_lower_case v.name) vs ≡ Some v
+  pub found_again : (i : List ℕ) (v : Variable) → variable_named (in_lower_case i) vs ≡ Some v → variable_named (in_lower_case v.name) vs ≡ Some v
   found_again i v h = ap (λ k. variable_named k vs) (found_name (in_lower_case i) vs v h) ∙ h
 
   -- what lies within it stands from its first leaf on

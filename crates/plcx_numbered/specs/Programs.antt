@@ -24,7 +24,7 @@ network_wires es = map (λ (o : Port). value o.ty (pos 0)) (flat_map (λ (e : Di
 abbrev pub jump_of : Numbering → (ℕ × ℕ) → Jump
 jump_of c l = record { wire = c.wire l.1 []; target = l.0 }
 
--- a network is prepared of its elements, whose arguments and bindings stand in the program from these places on
+-- a network is prepared of its elements, whose arguments and bindings stand in the program from these places on, which lie within it
 pub record IsNetworkOf (project : Project) (program : Program) (p : Pou) (es : List DiagramElement) (network : Network) : Type 0 where
   pub argument : ℕ
   pub binding : ℕ
@@ -33,6 +33,8 @@ pub record IsNetworkOf (project : Project) (program : Program) (p : Pou) (es : L
   pub jumps : network.jumps.items ≡ map (jump_of (numbering project p es)) (leaps p.networks es)
   pub arguments : HasAt program.arguments.items argument (elements_arguments (numbering project p es) es)
   pub bindings : HasAt program.bindings.items binding (elements_bindings (numbering project p es) es)
+  pub arguments_begin : argument ≤ length program.arguments.items
+  pub bindings_begin : binding ≤ length program.bindings.items
 
 -- The frame of a body: how many levels of blocks are below it, how many leaves, memories and in-outs an instance has, wires enough for each of its
 -- networks, and the place of its wires and in-outs, behind those of the blocks that it calls.

@@ -1,7 +1,7 @@
 -- What elements add, one after another.
 use Rattle.std.proofs.Common.{◌≡◌, ◌∙◌, ℕ, zero, suc, ◌+◌, ◌<◌, List, [], ◌∷◌, ◌++◌, Bor, Option, Some, None, map, take, get_or, length, refl, sym, ap, subst, arith, append_assoc}
 use Rattle.std.specs.Option.{option_map, option_copied}
-use Rattle.std.specs.List.{slice_get}
+use Rattle.std.specs.List.{slice_get, filter_map, cons_option}
 use Rattle.std.proofs.lemmas.List.{append-nil, length-append, take_more}
 use Rattle.std.proofs.lemmas.List.Elements.{filter_map-append}
 use Rattle.std.proofs.lemmas.Option.{slice_get-map}
@@ -27,11 +27,19 @@ nothing_there shown xs i r is none = slice_get-map shown xs i ∙ ap (option_map
 pub found_there : {A B : Type 0} (shown : A → B) (xs : List A) (i : ℕ) (r : Option (Bor A)) (x : Bor A) → option_copied r ≡ slice_get xs i → r ≡ Some x → slice_get (map shown xs) i ≡ Some (shown x.now)
 found_there shown xs i r x is some = slice_get-map shown xs i ∙ ap (option_map shown) (sym is ∙ ap option_copied some)
 
--- what holds of each holds of what was found
-pub each_found : {B : Type 0} (P : B → Type 0) (xs : List B) (i : ℕ) (x : B) → Each P xs → slice_get xs i ≡ Some x → P x
-each_found P [] i x each is = absurd (let no : ⊥ = cc in no)
-each_found P (y ∷ ys) zero x each is = let same : y ≡ x = cc in subst P same each.0
-each_found P (y ∷ ys) (suc i) x each is = each_found P ys i x each.1 is
+-- what holds of what is found at all places holds of what is found at one of them
+later_found : {B : Type 0} (P : B → Type 0) (o : Option B) (rest : List B) → Each P (cons_option o rest) → Each P rest
+later_found P None rest h = h
+later_found P (Some y) rest h = h.1
+
+first_found : {B : Type 0} (P : B → Type 0) (o : Option B) (rest : List B) → Each P (cons_option o rest) → Each P (cons_option o [])
+first_found P None rest h = tt
+first_found P (Some y) rest h = (h.0, tt)
+
+pub each_of_place : {A B : Type 0} (P : B → Type 0) (f : A → Option B) (xs : List A) (i : ℕ) (d : A) → i < length xs → Each P (filter_map f xs) → Each P (filter_map f (get_or xs i d ∷ []))
+each_of_place P f [] i d low each = absurd (omega arith)
+each_of_place P f (x ∷ xs) zero d low each = first_found P (f x) (filter_map f xs) each
+each_of_place P f (x ∷ xs) (suc i) d low each = let less : i < length xs = omega arith in each_of_place P f xs i d less (later_found P (f x) (filter_map f xs) each)
 
 steps_then : (c : Numbering) (a b : ℕ) (es fs : List DiagramElement)
     → elements_steps c a b (es ++ fs) ≡ elements_steps c a b es ++ elements_steps c (a + length (elements_arguments c es)) (b + length (elements_bindings c es)) fs

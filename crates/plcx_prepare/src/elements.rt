@@ -338,7 +338,7 @@ fn with_place<N: Numbers>(
     drawing: &Drawing,
     place: u32,
 ) -> Result<Prepared, NoMemory>
-    requires { Each ElementHasLiterals (shown_elements drawing.now) }
+    requires { Each ElementHasLiterals (shown_network drawing.now (place ∷ [])) }
     ensures { IfOk result (λ after. Adds (N.numbering numbers.now) (shown_network drawing.now (place ∷ [])) before after) }
 {
     match at(drawing.elements(), place as usize) {
@@ -355,7 +355,7 @@ pub fn with_network<N: Numbers>(
     drawing: &Drawing,
     places: &[u32],
 ) -> Result<Prepared, NoMemory>
-    requires { Each ElementHasLiterals (shown_elements drawing.now) }
+    requires { Each ElementHasLiterals (shown_network drawing.now places.now) }
     ensures { IfOk result (λ after. Adds (N.numbering numbers.now) (shown_network drawing.now places.now) before after) }
 {
     let mut all = before;

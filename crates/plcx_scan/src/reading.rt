@@ -1,6 +1,8 @@
 //! Event files: a header with the names of settable leaves, and a record for each event.
 ghost use Rattle.std.specs.Prelude.{◌≡◌, ◌<◌, ◌≤◌, ◌^◌, Some, None, IfOk, IfErr, OnOk, length};
+ghost use Rattle.plcx_types.specs.Lists.{Each};
 ghost use Rattle.plcx_state.specs.Layouts.{all_meant};
+ghost use Rattle.plcx_state.specs.Tables.{HasPlainNames};
 ghost use Rattle.plcx_scan.specs.Events.{meant_events, CanFollow, last_after};
 ghost use Rattle.plcx_scan.specs.Files.{RecordsStandFor, StandsForEvents};
 ghost use Rattle.plcx_scan.specs.ReadFiles.{rows_events, CanTell, WhyNotRows};
@@ -100,6 +102,7 @@ fn read_records(alloc: Global, table: &PathTable, rows: &[Record]) -> Result<Vec
 pub fn read_events(alloc: Global, layout: &Layout, bytes: &[u8]) -> Result<Vec<Event>, EventError>
     ensures ok { IfOk result (λ events. StandsForEvents (all_meant layout.now.leaves) bytes.now (meant_events layout.now.leaves events.items)) }
     ensures follow { IfOk result (λ events. CanFollow layout.now.leaves 0 events.items) }
+    ensures plain { OnOk result (Each HasPlainNames layout.now.leaves) }
     ensures err { IfErr result (WhyNotEvents (all_meant layout.now.leaves) bytes.now) }
 {
     let table = PathTable::of(alloc, layout)?;

@@ -5,7 +5,7 @@ use Rattle.plcx_meaning.specs.Tree.{arms}
 use Rattle.plcx_meaning.specs.Templates.{turn_text, arms_text}
 use Rattle.plcx_drawn.specs.Shown.{shown_network, shown_networks}
 use Rattle.plcx_st.specs.InRange.{StatementInRange, ArmsInRange}
-use Rattle.plcx_jump.proofs.Walks.{left}
+use Rattle.plcx_drawn.proofs.Walks.{left}
 use Rattle.plcx_jump.proofs.Blocks.{stated}
 use Rattle.plcx_jump.proofs.bodies.arms.Goals as goal
 

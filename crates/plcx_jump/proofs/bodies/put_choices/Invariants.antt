@@ -1,7 +1,7 @@
 use Rattle.std.proofs.Common.{◌≡◌, ◌++◌, map, drop}
 use Rattle.plcx_meaning.specs.Templates.{choices_text}
 use Rattle.plcx_st.specs.Meant.{stmt_meant}
-use Rattle.plcx_jump.specs.Labels.{network_of}
+use Rattle.plcx_targets.specs.Labels.{network_of}
 use Rattle.plcx_jump.proofs.bodies.put_choices.Given as goal
 
 -- the choices of the elements from this place on

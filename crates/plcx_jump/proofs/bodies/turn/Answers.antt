@@ -4,7 +4,7 @@ use Rattle.plcx_meaning.specs.Templates.{elements_text, choices_text}
 use Rattle.plcx_drawn.specs.declared.element.Element.{Element}
 use Rattle.plcx_rules.proofs.Lists.{each_split}
 use Rattle.plcx_st.specs.InRange.{StatementInRange}
-use Rattle.plcx_jump.specs.Labels.{network_of}
+use Rattle.plcx_targets.specs.Labels.{network_of}
 use Rattle.plcx_jump.proofs.bodies.turn.Goals as goal
 
 pub put_choices-requires : goal.put_choices-requires

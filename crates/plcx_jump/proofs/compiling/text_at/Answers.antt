@@ -8,7 +8,7 @@ use Rattle.plcx_types.specs.Limits.{max_elements}
 use Rattle.plcx_types.specs.Lists.{Each}
 use Rattle.plcx_meaning.specs.Tree.{statements}
 use Rattle.plcx_st.specs.InRange.{StatementsInRange}
-use Rattle.plcx_jump.specs.Named.{BlockIsNamed}
+use Rattle.plcx_declare.specs.Named.{BlockIsNamed}
 use Rattle.plcx_view.specs.Diagrams.{diagrams_of}
 use Rattle.plcx_drawn.specs.Pous.{shown_pou}
 use Rattle.plcx_drawn.specs.Shown.{shown_network}

@@ -79,14 +79,14 @@ returns-in-Write-clause-keeps c =
     kept_value c.args.state.now _ c.leaf-leaf.result c.source_value-value.result h.0
     (subst (λ i. HasValue c.args.state.now.store.values i h.0) (sym c.leaf-leaf.ensures.value) (place_type c.requires.typed.0 c.args.spot.now.at c.args.spot.now.in_outs.now c.args.state.now.store.values c.args.state.now.store.memories c.in-Write.to h.0 c.requires.typed.1.0 h.1))
     (ap (λ (v : Value). v.ty) c.source_value-value.ensures ∙ source_type c.requires.typed.0 (here_of c.args.spot.now) (state_cells c.args.state.now c.args.own.now) c.in-Write.source h.0 c.requires.typed.1.0 h.2)
-    (ap (λ (s : Stored). s.values) c.set.ensures) (ap (λ (s : Stored). s.memories) c.set.ensures) refl refl
+    c.set.ensures refl refl
 
 pub returns-in-Keep-clause-keeps : goal.returns-in-Keep-clause-keeps
 returns-in-Keep-clause-keeps c =
     let h : (t : Ty) × (slice_get c.requires.typed.0.memories c.in-Keep.memory ≡ Some t) × IsOf c.requires.typed.0 c.args.own.now c.in-Keep.source t = rw c.in-Keep.is at c.requires.typed.1.1 in
     kept_memory c.args.state.now _ (c.args.spot.now.at.memories + c.in-Keep.memory) c.source_value-value-in-Keep.result h.0 (c.requires.typed.1.0.of_memories c.in-Keep.memory h.0 h.1)
     (ap (λ (v : Value). v.ty) c.source_value-value-in-Keep.ensures ∙ source_type c.requires.typed.0 (here_of c.args.spot.now) (state_cells c.args.state.now c.args.own.now) c.in-Keep.source h.0 c.requires.typed.1.0 h.2)
-    (ap (λ (s : Stored). s.memories) c.set_memory.ensures) (ap (λ (s : Stored). s.values) c.set_memory.ensures) refl refl
+    c.set_memory.ensures refl refl
 
 pub returns-in-Not-clause-wires : goal.returns-in-Not-clause-wires
 returns-in-Not-clause-wires c =
@@ -119,6 +119,8 @@ returns-in-Standard-clause-keeps c =
           (standard_same c.in-Standard.kind _ (c.args.spot.now.at.leaves + c.in-Standard.leaves) c.args.state.now.store.values
           (λ i p there. subst (λ j. HasValue c.args.state.now.store.values j p.ty) (sym (add_assoc c.args.spot.now.at.leaves c.in-Standard.leaves i)) (c.requires.typed.1.0.of_leaves (c.in-Standard.leaves + i) p.ty (h i p there))));
       memories = subst (SameTypes c.args.state.now.store.memories) (sym (ap (λ (s : Stored). s.memories) c.call_standard.ensures)) (same_refl c.args.state.now.store.memories);
+      starts = ap (λ (s : Stored). s.starts) c.call_standard.ensures;
+      memory_starts = ap (λ (s : Stored). s.memory_starts) c.call_standard.ensures;
       inputs = refl;
       left = omega arith;
     }

@@ -1,0 +1,4 @@
+pub mod Each
+pub mod Adding
+pub mod Levels
+pub mod Standing

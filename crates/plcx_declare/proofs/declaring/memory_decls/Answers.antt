@@ -1,0 +1,18 @@
+use Rattle.std.proofs.Common.{map}
+use Rattle.plcx_meaning.specs.Templates.{element_memories}
+use Rattle.plcx_drawn.specs.Shown.{shown_element}
+use Rattle.plcx_declare.specs.Named.{IsNamed}
+use Rattle.plcx_st.specs.Meant.{decl_meant}
+use Rattle.plcx_declare.proofs.Walks.{each_here, made_here}
+use Rattle.plcx_declare.proofs.declaring.memory_decls.Goals as goal
+
+pub put_memories-requires : goal.put_memories-requires
+put_memories-requires c =
+    (each_here element_memories shown_element c.args.elements.now c.loop-element.element-index c.element-item.result c.loop-element-test.true c.element-item.is IsNamed c.loop-element.invariant.range).0
+
+pub loop-element-preserved : goal.loop-element-preserved
+loop-element-preserved c = record {
+  made = made_here element_memories shown_element c.args.elements.now c.loop-element.element-index c.element-item.result c.loop-element-test.true c.element-item.is
+      (map decl_meant c.loop-element.decls.items) (map decl_meant c.put_memories.new.decls.items) _ c.in_ok-put_memories.ensures c.loop-element.invariant.made;
+  range = (each_here element_memories shown_element c.args.elements.now c.loop-element.element-index c.element-item.result c.loop-element-test.true c.element-item.is IsNamed c.loop-element.invariant.range).1;
+}

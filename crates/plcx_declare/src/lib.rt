@@ -1,0 +1,6 @@
+//! The declarations of the text of a POU.
+#![tactic(auto)]
+
+mod declaring;
+
+pub use declaring::blocks;

@@ -1,0 +1,5 @@
+pub mod Zips
+pub mod Callees
+pub mod Growing
+pub mod Tables
+pub mod Programs

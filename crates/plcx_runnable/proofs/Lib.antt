@@ -1,0 +1,13 @@
+pub mod Functions
+pub mod Propositions
+pub mod Lists
+pub mod Memories
+pub mod Outputs
+pub mod Variables
+pub mod Good
+pub mod Links
+pub mod Applying
+pub mod Calls
+pub mod Elements
+pub mod Programs
+pub mod Standing

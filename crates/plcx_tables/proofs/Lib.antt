@@ -1,0 +1,14 @@
+pub mod Growing
+pub mod Equals
+pub mod Walks
+pub mod Drawn
+pub mod Listed
+pub mod Repeating
+pub mod Within
+pub mod Meant
+pub mod Counts
+pub mod Founds
+pub mod Keyed
+pub mod Meaning
+pub mod Places
+pub mod Found

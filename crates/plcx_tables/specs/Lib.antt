@@ -1,0 +1,11 @@
+pub mod Alike
+pub mod Tables
+pub mod Named
+pub mod Telling
+pub mod Owned
+pub mod Levels
+pub mod Placing
+pub mod Tabled
+pub mod Numbering
+pub mod Fitting
+pub mod Networks

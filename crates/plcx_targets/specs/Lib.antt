@@ -1,0 +1,2 @@
+-- Serves proofs: labels by their names.
+pub mod Labels
