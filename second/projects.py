@@ -255,7 +255,7 @@ class Generator:
             kinds = ['function'] * 5 + ['outVariable'] * 3 + ['connector'] + ['jump'] + ['return', 'comment', 'vendorElement', 'label', 'inVariable']
             kinds += ['block'] * (4 if instances else 0) + (['contact'] * 4 + ['coil'] * 3 + ['rightPowerRail'] if p.ladder else [])
             late.append(getattr(self, 'make_' + r.choice(kinds))(p, instances))
-        for n in range(r.choice([0, 1, 1, 2]) if self.to_run and p.kind == 'program' else 0):
+        for n in range(r.choice([0, 1, 2, 3]) if self.to_run and p.kind == 'program' else 0):
             self.direct(p, n)
         for f in late:
             if f:
@@ -264,24 +264,34 @@ class Generator:
             r.shuffle(p.elements)
 
     def direct(self, p, n):
-        """A standard block that the program's own variables set and show, with short presets."""
-        r, kind = self.r, self.r.choice(list(STANDARD) + ['TON', 'TOF', 'TOF', 'TP', 'TP', 'CTUD'])
-        l = E(cls='localVars', constant=False, retain=self.chance(0.3), vars=[E(name='Block%d' % n, ty=None, block=kind)])
+        """A standard block, with short presets, or a function, that the program's own variables set and show."""
+        r, l = self.r, E(cls='localVars', constant=False, retain=self.chance(0.3), vars=[])
         p.lists.append(l)
-        e = self.new(p, 'block', type=kind, instance='Block%d' % n)
-        ins, _, outs = self.sides(kind)
-        for k, (name, ty) in enumerate(ins + outs):
-            v, at = E(name='%s_%d' % (name, n), ty=ty, block=None), pin(name, ty, 'in')
+        if self.chance(0.5):
+            kind, name = r.choice(list(STANDARD) + ['TON', 'TOF', 'TOF', 'TP', 'TP', 'CTUD']), 'Block%d' % n
+            l.vars.append(E(name=name, ty=None, block=kind))
+            ins, _, outs = self.sides(kind)
+        else:
+            kind, name = r.choice(PLAIN_FUNCS if self.chance(0.7) else CONVERSIONS), ''
+            fixed, first, _, _, allowed, out = FUNCS[kind]
+            group = r.choice(sorted(allowed)) if allowed else None
+            ins = [(formal, group if cls == 'group' else r.choice(sorted(N)) if cls == 'lone' else cls) for formal, cls in fixed.items()]
+            ins += [('IN%d' % (first + k), group) for k in range(r.choice([2, 2, 3]))] if first is not None else []
+            outs = [('OUT', group if out == 'group' else out)]
+        e = self.new(p, 'block', type=kind, instance=name)
+        for k, (formal, ty) in enumerate(ins + outs):
+            v, at = E(name='%s_%d' % (formal, n), ty=ty, block=None), pin(formal, ty, 'in')
+            l.vars.append(v)
             if k >= len(ins):
                 e.outs.append(at)
                 to = self.new(p, 'outVariable', text=v.name)
-                to.wires.append(E(to=e, formal=name))
-                p.sources.append((e, name, ty))
-            else:
-                e.ins.append(at)
-                text = v.name if ty == 'BOOL' or self.chance(0.1) else r.choice(SHORT) if ty == 'TIME' else r.choice(['-1', '0', '1', '1', '2', '3'])
-                at.wires.append(E(to=self.new(p, 'inVariable', text=text), formal=''))
-            l.vars.append(v)
+                to.wires.append(E(to=e, formal=formal))
+                p.sources.append((e, formal, ty))
+                continue
+            e.ins.append(at)
+            is_set = ty == 'BOOL' or self.chance(0.1 if name else 0.8)
+            text = v.name if is_set else self.literal_of(ty) if not name else r.choice(SHORT) if ty == 'TIME' else r.choice(['-1', '0', '1', '1', '2', '3'])
+            at.wires.append(E(to=self.new(p, 'inVariable', text=text), formal=''))
 
     def make_comment(self, p, _):
         self.new(p, 'comment')
