@@ -1,0 +1,4 @@
+mod Remembering
+pub mod Places
+pub mod Propositions
+pub mod Layouts
