@@ -1,5 +1,0 @@
-pub mod OneOutcome
-pub mod Chosen
-pub mod Simulated
-pub mod Listened
-pub mod Heard
