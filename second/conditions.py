@@ -12,146 +12,16 @@ import sys
 sys.dont_write_bytecode = True
 sys.setrecursionlimit(10000)
 import rules
-from rules import A, FUNCS, N, RANGE, STANDARD, up
+from reading import OPERATORS, Reader
+from rules import A, FUNCS, N, RANGE, STANDARD, Thing, up
 
 ORDER = ['name', 'type', 'recursion', 'literal']
-GAP = re.compile(rb'(?:\s|\(\*.*?\*\)|//[^\n]*)*', re.S)
-NAME = rb'[A-Za-z_][A-Za-z0-9_]{0,127}'
-TOKEN = re.compile(rb'(?P<number>[A-Za-z]+#[-+]?[0-9A-Za-z_.#]*)|(?P<name>' + NAME + rb')|(?P<digits>\d+)|(?P<address>%[A-Za-z0-9.]+)|(?P<sign>:=|<=|>=|<>|[-:;,.()+*/=<>])')
-HEADS = {'VAR': 'local', 'VAR_INPUT': 'input', 'VAR_OUTPUT': 'output', 'VAR_IN_OUT': 'inout', 'VAR_TEMP': 'temp'}
-LEVELS = [{'OR'}, {'XOR'}, {'AND'}, {'=', '<>'}, {'<', '>', '<=', '>='}, {'+', '-'}, {'*', '/', 'MOD'}]
-OPERATORS = {'OR': 'OR', 'XOR': 'XOR', 'AND': 'AND', '=': 'EQ', '<>': 'NE', '<': 'LT', '>': 'GT', '<=': 'LE', '>=': 'GE', '+': 'ADD', '-': 'SUB', '*': 'MUL', '/': 'DIV',
-             'MOD': 'MOD'}
 WRITTEN = set(OPERATORS.values()) | {'NOT'}
 KEYWORDS = set('''PROGRAM END_PROGRAM FUNCTION_BLOCK END_FUNCTION_BLOCK FUNCTION END_FUNCTION VAR VAR_INPUT VAR_OUTPUT VAR_IN_OUT VAR_TEMP VAR_EXTERNAL
     VAR_GLOBAL END_VAR CONSTANT RETAIN AT IF THEN ELSE ELSIF END_IF WHILE DO END_WHILE CASE OF END_CASE FOR TO BY END_FOR REPEAT UNTIL END_REPEAT EXIT
     RETURN AND OR XOR NOT MOD TRUE FALSE'''.split())
 LEAVES = {'TON': 6, 'TOF': 7, 'TP': 7, 'CTU': 6, 'CTD': 6, 'CTUD': 10, 'SR': 3, 'RS': 3, 'R_TRIG': 3, 'F_TRIG': 3}
 RESERVED = KEYWORDS | {'EN', 'ENO'} | set(RANGE) | set(FUNCS) | set(STANDARD)
-
-
-class Thing:
-    def __init__(self, **fields):
-        self.__dict__.update(fields)
-
-
-class Reader:
-    """The tokens of a text with their places, and how far they are read."""
-
-    def __init__(self, data):
-        self.tokens, at = [], GAP.match(data).end()
-        while at < len(data):
-            m = TOKEN.match(data, at)
-            self.tokens.append((m.group().decode(), at))
-            at = GAP.match(data, m.end()).end()
-        self.tokens.append(('', len(data)))
-        self.k = 0
-
-    def next(self):
-        return up(self.tokens[self.k][0])
-
-    def take(self, wanted=None):
-        """Takes the next token with its place."""
-        t = self.tokens[self.k]
-        assert wanted is None or up(t[0]) == wanted, (wanted, t)
-        self.k += 1
-        return t
-
-    def unit(self):
-        pous = []
-        while self.next():
-            word = up(self.take()[0])
-            p = Thing(program=word == 'PROGRAM', name=self.take(), variables=[])
-            while self.next() in HEADS:
-                self.block(p)
-            p.body = self.statements()
-            self.take('END_' + word)
-            pous.append(p)
-        return pous
-
-    def block(self, p):
-        cls = HEADS[up(self.take()[0])]
-        mark = up(self.take()[0]) if self.next() in ('CONSTANT', 'RETAIN') else ''
-        while self.next() != 'END_VAR':
-            v = Thing(name=self.take(), cls=cls, mark=mark, initial=None)
-            if self.next() == 'AT':
-                self.take(), self.take()
-            self.take(':')
-            v.type = self.take()
-            if self.next() == ':=':
-                self.take()
-                v.initial = self.take()
-            self.take(';')
-            p.variables.append(v)
-        self.take()
-
-    def statements(self):
-        found = []
-        while self.next() and not self.next().startswith('END_') and not self.next().isdigit():
-            found.append(self.statement())
-        return found
-
-    def statement(self):
-        word = self.next()
-        if word in ('IF', 'WHILE', 'CASE'):
-            self.take()
-            s = Thing(kind=word, value=self.expression(0), inner=[], labels=[])
-            self.take({'IF': 'THEN', 'WHILE': 'DO', 'CASE': 'OF'}[word])
-            if word == 'CASE':
-                while self.next() != 'END_CASE':
-                    s.labels.append(self.take())
-                    self.take(':')
-                    s.inner += self.statements()
-            else:
-                s.inner = self.statements()
-            self.take('END_' + word)
-        else:
-            name = self.take()
-            if self.take()[0] == ':=':
-                s = Thing(kind=':=', target=name, value=self.expression(0), inner=[])
-            else:
-                s = Thing(kind='call', instance=name, args=[], inner=[])
-                while self.next() != ')':
-                    if s.args:
-                        self.take(',')
-                    formal = self.take()
-                    self.take(':=')
-                    s.args.append((formal, self.expression(0)))
-                self.take()
-        self.take(';')
-        return s
-
-    def expression(self, level):
-        if level == len(LEVELS):
-            return self.operand()
-        left = self.expression(level + 1)
-        while self.next() in LEVELS[level]:
-            f = OPERATORS[up(self.take()[0])]
-            left = Thing(kind='operator', function=f, parts=[left, self.expression(level + 1)], at=left.at)
-        return left
-
-    def operand(self):
-        t, at = self.take()
-        if up(t) == 'NOT':
-            return Thing(kind='operator', function='NOT', parts=[self.operand()], at=at)
-        if t == '(':
-            e = self.expression(0)
-            self.take(')')
-            return e
-        if '#' in t or up(t) in ('TRUE', 'FALSE'):
-            return Thing(kind='literal', text=t, parts=[], at=at)
-        if self.next() == '.':
-            self.take()
-            return Thing(kind='member', instance=(t, at), output=self.take(), parts=[], at=at)
-        if self.next() != '(':
-            return Thing(kind='name', name=(t, at), parts=[], at=at)
-        self.take()
-        e = Thing(kind='call', name=(t, at), parts=[self.expression(0)], at=at)
-        while self.next() == ',':
-            self.take()
-            e.parts.append(self.expression(0))
-        self.take(')')
-        return e
 
 
 def number_of(text):
@@ -383,11 +253,12 @@ class Unit:
                 self.wants(m, t, s.value)
         else:
             self.wants('DINT' if s.kind == 'CASE' else 'BOOL', self.expression(s.value), s.value)
-            for k, (digits, at) in enumerate(getattr(s, 'labels', [])):
+            for k, (digits, at) in enumerate(s.labels):
                 if int(digits) > 2147483647 or int(digits) in [int(d) for d, _ in s.labels[:k]]:
                     self.tell('literal', at)
-        for inner in s.inner:
-            self.statement(inner)
+        for body in s.bodies:
+            for inner in body:
+                self.statement(inner)
 
     def call(self, s):
         v = self.own(s.instance[0])
