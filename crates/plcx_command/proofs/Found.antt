@@ -51,7 +51,8 @@ module _ (told : List ℕ → Option (List ℕ)) (rose : List ℕ → Type 0) wh
     faulty : command ≡ None → a ≡ usage_answer → Found command a
     unbuilt : is_to_come command ≡ true → a ≡ not_built_answer → Found command a
     unread : (name : List ℕ) → project_file command ≡ Some name → rose name → a ≡ read_answer name → Found command a
-    breaks : (b : model.Broken) (name : List ℕ) → project_file command ≡ Some name → ((bytes : List ℕ) → told name ≡ Some bytes → FileVerdict bytes (verdict.Broken b)) → a ≡ broken_answer b → Found command a
+    breaks : (b : model.Broken) (name : List ℕ) → project_file command ≡ Some name
+        → ((bytes : List ℕ) → told name ≡ Some bytes → FileVerdict bytes (verdict.Broken b)) → a ≡ broken_answer b → Found command a
     accepts : (c : Command) → command ≡ Some c → (name : List ℕ) → project_file command ≡ Some name → IsFollowed c name a → Found command a
 
   found-over : (c : Command) (a : Answer) (f : Option (List ℕ)) → file_of c ≡ f → SaysOver told rose f c a → Found (Some c) a

@@ -74,7 +74,8 @@ module _ (one_verdict : (bytes : List ℕ) (v w : Verdict) → FileVerdict bytes
       by (inr m) e = absurd (subst IsDefined (e ∙ ap status_for m) d)
 
   -- what was found of a refusal that tells no want of memory
-  pub found-refusal : (why : Refused) (command : Option Command) (a : Answer) (line : List ℕ) → why ≢ why'.NoMemory → a ≡ refusal why line → MaySay told rose command a → Found told rose command a
+  pub found-refusal : (why : Refused) (command : Option Command) (a : Answer) (line : List ℕ) → why ≢ why'.NoMemory → a ≡ refusal why line
+      → MaySay told rose command a → Found told rose command a
   found-refusal why command a line ne is (inl says) = found told rose command a says
   found-refusal why command a line ne is (inr m) = let both : refusal why line ≡ memory_answer = sym is ∙ m in let same : why ≡ why'.NoMemory = cc in absurd (ne same)
 
@@ -114,7 +115,8 @@ module _ (one_verdict : (bytes : List ℕ) (v w : Verdict) → FileVerdict bytes
 
   -- ---- what is not built
 
-  unbuilt-found : (command : Option Command) (a : Answer) (line : List ℕ) → a ≡ refusal why'.NotBuilt line → Found told rose command a → (is_to_come command ≡ true) × (line ≡ not_built_line)
+  unbuilt-found : (command : Option Command) (a : Answer) (line : List ℕ) → a ≡ refusal why'.NotBuilt line → Found told rose command a
+      → (is_to_come command ≡ true) × (line ≡ not_built_line)
   unbuilt-found command a line is (faulty n e) = absurd (cc)
   unbuilt-found command a line is (unbuilt t e) = (t, cc)
   unbuilt-found command a line is (unread name p r e) = absurd (cc)
@@ -173,7 +175,8 @@ module _ (one_verdict : (bytes : List ℕ) (v w : Verdict) → FileVerdict bytes
   pub accepted-verdict : (c : Command) (name bytes : List ℕ) (a : Answer) → told name ≡ Some bytes → IsFollowed told rose c name a → FileVerdict bytes verdict.Accepted
   accepted-verdict c name bytes a k f = subst (λ (x : List ℕ). FileVerdict x verdict.Accepted) (tells-same (told name) f.bytes bytes k f.tells) (Within f.short (Passed f.project f.keeps))
 
-  judged-broken : (command : Option Command) (a : Answer) (s : Status) (b : model.Broken) → IsDefined s → s ≡ status_for a → IsJudged told command (verdict.Broken b) → Found told rose command a → s ≡ status.Broken
+  judged-broken : (command : Option Command) (a : Answer) (s : Status) (b : model.Broken) → IsDefined s → s ≡ status_for a → IsJudged told command (verdict.Broken b)
+      → Found told rose command a → s ≡ status.Broken
   judged-broken command a s b d st j (faulty n e) = let p = j.reads in absurd (cc)
   judged-broken command a s b d st j (unbuilt t e) = absurd (unread_to_come command j.name t j.reads)
   judged-broken command a s b d st j (unread name p r e) = absurd (subst IsDefined (st ∙ ap status_for e) d)
@@ -207,7 +210,8 @@ module _ (one_verdict : (bytes : List ℕ) (v w : Verdict) → FileVerdict bytes
     passes : (c : Command) → command ≡ Some c → FileVerdict bytes verdict.Accepted → IsFollowed told rose c name a → ByVerdict command name bytes a
     fails : (b : model.Broken) → FileVerdict bytes (verdict.Broken b) → a ≡ broken_answer b → ByVerdict command name bytes a
 
-  pub by_verdict : (command : Option Command) (name bytes : List ℕ) (a : Answer) (s : Status) → project_file command ≡ Some name → told name ≡ Some bytes → IsDefined s → IsAnswered command a s → ByVerdict command name bytes a
+  pub by_verdict : (command : Option Command) (name bytes : List ℕ) (a : Answer) (s : Status) → project_file command ≡ Some name → told name ≡ Some bytes
+      → IsDefined s → IsAnswered command a s → ByVerdict command name bytes a
   by_verdict command name bytes a s is k d answer = by answer.found answer.status
     where
       by : Found told rose command a → s ≡ status_for a → ByVerdict command name bytes a
@@ -256,7 +260,8 @@ module _ (one_verdict : (bytes : List ℕ) (v w : Verdict) → FileVerdict bytes
             (subst (Gets out) text w.gets, w.quiet)),
       )
 
-  compile-outputs : (name bytes : List ℕ) (a : Answer) (c : Command) → told name ≡ Some bytes → compile name ≡ c → IsFollowed told rose c name a → (text : List ℕ) × IsCompiled bytes text × (a ≡ output text)
+  compile-outputs : (name bytes : List ℕ) (a : Answer) (c : Command) → told name ≡ Some bytes → compile name ≡ c → IsFollowed told rose c name a
+      → (text : List ℕ) × IsCompiled bytes text × (a ≡ output text)
   compile-outputs name bytes a (check n) k is f = absurd (cc)
   compile-outputs name bytes a (compile n) k is f =
       let same = tells-same (told name) f.bytes bytes k f.tells in
@@ -283,7 +288,8 @@ module _ (one_verdict : (bytes : List ℕ) (v w : Verdict) → FileVerdict bytes
   -- ---- faults of the outside, and want of memory
 
   -- a read fault of a run
-  run-read : (r : Run) (command : Option Command) (c : Command) → command ≡ Some c → c ≡ simulate r → (name : List ℕ) → project_file command ≡ Some name → (a : Answer) (f : IsFollowed told rose c name a)
+  run-read : (r : Run) (command : Option Command) (c : Command) → command ≡ Some c → c ≡ simulate r → (name : List ℕ) → project_file command ≡ Some name
+      → (a : Answer) (f : IsFollowed told rose c name a)
       → (e : RunError) → IsSimulated told rose r f.bytes (Err e) → (TellsProject told command → Simulates told rose r (Err e))
   run-read r command c n is name p a f e i k =
       let held = k name p in

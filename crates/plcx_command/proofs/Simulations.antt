@@ -36,7 +36,8 @@ traced-outcome r (Ok t) text e = let same : text ≡ t = cc in ap Ok (sym same)
 traced-outcome r (Err f) text e = absurd (cc)
 
 -- and a refusal to one alone that is refused so
-refused-outcome : (r : Run) (x : Result (List ℕ) RunError) (why : Refused) (line : List ℕ) → refusal why line ≡ answer_to r x → (e : RunError) × (x ≡ Err e) × (refused_as e ≡ why) × (line ≡ error_line r e)
+refused-outcome : (r : Run) (x : Result (List ℕ) RunError) (why : Refused) (line : List ℕ) → refusal why line ≡ answer_to r x
+    → (e : RunError) × (x ≡ Err e) × (refused_as e ≡ why) × (line ≡ error_line r e)
 refused-outcome r (Ok t) why line e = absurd (cc)
 refused-outcome r (Err f) why line e = let same : why ≡ refused_as f = cc in (f, refl, sym same, cc)
 
@@ -76,7 +77,8 @@ module _ (one_verdict : (bytes : List ℕ) (v w : Verdict) → FileVerdict bytes
   calm-begun None leaves line h = h
   calm-begun (Some name) leaves line h = h
 
-  calm : (project : Project) (r : Run) (x : Result (List ℕ) RunError) → IsDefined (status_for (answer_to r x)) → ComesTo told rose (programs_of project) r x → ComesTo told Never (programs_of project) r x
+  calm : (project : Project) (r : Run) (x : Result (List ℕ) RunError) → IsDefined (status_for (answer_to r x)) → ComesTo told rose (programs_of project) r x
+      → ComesTo told Never (programs_of project) r x
   calm project r (Ok text) d h = h
   calm project r (Err (error.NoProgram n)) d h = h
   calm project r (Err error.RetainedRead) d h = absurd d
@@ -127,7 +129,8 @@ module _ (one_verdict : (bytes : List ℕ) (v w : Verdict) → FileVerdict bytes
       subst (λ (b : List ℕ). FileVerdict b verdict.Accepted) same (Within h.short (Passed h.simulated.has.project h.simulated.has.keeps))
 
   -- a simulation that comes to something was answered to that of it
-  outcome-passes : (r : Run) (command : Option Command) (bytes : List ℕ) (a : Answer) (s : Status) (x : Result (List ℕ) RunError) → command ≡ Some (simulate r) → told r.file ≡ Some bytes → IsDefined s → s ≡ status_for a
+  outcome-passes : (r : Run) (command : Option Command) (bytes : List ℕ) (a : Answer) (s : Status) (x : Result (List ℕ) RunError) → command ≡ Some (simulate r)
+      → told r.file ≡ Some bytes → IsDefined s → s ≡ status_for a
       → Simulates told Never r x → ByVerdict one_verdict told rose Became command r.file bytes a → IsOutcome r a
   outcome-passes r command bytes a s x is k d st h (passes c n v f) = let same : simulate r ≡ c = cc in outcome-of r c bytes a same k (subst IsDefined st d) f
   outcome-passes r command bytes a s x is k d st h (fails b v e) =
@@ -138,7 +141,8 @@ module _ (one_verdict : (bytes : List ℕ) (v w : Verdict) → FileVerdict bytes
   project_told : (r : Run) (command : Option Command) → command ≡ Some (simulate r) → TellsAll told command → IsTold told r.file
   project_told r command is all = subst (λ (c : Option Command). TellsAll told c) is all r.file (inl refl)
 
-  by-run : (r : Run) (command : Option Command) (a : Answer) (s : Status) → command ≡ Some (simulate r) → (file : IsTold told r.file) → IsDefined s → IsAnswered one_verdict told rose Became command a s → ByVerdict one_verdict told rose Became command r.file file.0 a
+  by-run : (r : Run) (command : Option Command) (a : Answer) (s : Status) → command ≡ Some (simulate r) → (file : IsTold told r.file) → IsDefined s
+      → IsAnswered one_verdict told rose Became command a s → ByVerdict one_verdict told rose Became command r.file file.0 a
   by-run r command a s is file d answer = by_verdict one_verdict told rose Became command r.file file.0 a s (ap project_file is) file.1 d answer
 
   -- what a trace that was written is
@@ -148,7 +152,8 @@ module _ (one_verdict : (bytes : List ℕ) (v w : Verdict) → FileVerdict bytes
     gets : Gets out text
     quiet : Unchanged err
 
-  done-trace : (r : Run) (command : Option Command) (s : Status) (out err : Change) (ends : Ends told rose Became command s out err) → command ≡ Some (simulate r) → IsTold told r.file → IsDefined s → s ≡ status.Done → IsTrace r out err
+  done-trace : (r : Run) (command : Option Command) (s : Status) (out err : Change) (ends : Ends told rose Became command s out err) → command ≡ Some (simulate r)
+      → IsTold told r.file → IsDefined s → s ≡ status.Done → IsTrace r out err
   done-trace r command s out err ends is file d e =
       let answer = answered one_verdict told rose Became command s out err d ends in
       let by = by-run r command ends.answer s is file d answer in
@@ -164,7 +169,8 @@ module _ (one_verdict : (bytes : List ℕ) (v w : Verdict) → FileVerdict bytes
         quiet = w.quiet;
       }
 
-  trace-done : (r : Run) (command : Option Command) (s : Status) (out err : Change) (ends : Ends told rose Became command s out err) → command ≡ Some (simulate r) → TellsAll told command → IsDefined s
+  trace-done : (r : Run) (command : Option Command) (s : Status) (out err : Change) (ends : Ends told rose Became command s out err) → command ≡ Some (simulate r)
+      → TellsAll told command → IsDefined s
       → (text : List ℕ) → Simulates told Never r (Ok text) → s ≡ status.Done
   trace-done r command s out err ends is all d text h =
       let answer = answered one_verdict told rose Became command s out err d ends in
@@ -192,7 +198,8 @@ module _ (one_verdict : (bytes : List ℕ) (v w : Verdict) → FileVerdict bytes
     line_is : line ≡ error_line run error
     comes : IsTold told run.file → IsRefused told Never command error
 
-  run-refusal : (why : Refused) → IsDefined (status_of why) → (command : Option Command) (a : Answer) (line : List ℕ) → a ≡ refusal why line → why ≢ why'.Usage → why ≢ why'.NotBuilt → why ≢ why'.Broken → Found told rose command a
+  run-refusal : (why : Refused) → IsDefined (status_of why) → (command : Option Command) (a : Answer) (line : List ℕ) → a ≡ refusal why line → why ≢ why'.Usage
+      → why ≢ why'.NotBuilt → why ≢ why'.Broken → Found told rose command a
       → IsRefusal why command line
   run-refusal why d command a line is u n b (faulty m e) = absurd (u (cc))
   run-refusal why d command a line is u n b (unbuilt t e) = absurd (n (cc))
@@ -282,12 +289,14 @@ module _ (one_verdict : (bytes : List ℕ) (v w : Verdict) → FileVerdict bytes
 
   -- ---- completeness
 
-  quiet-begun : (r : Run) (leaves : List Leaf) (o : Option (List ℕ)) → r.retain ≡ o → ((name : List ℕ) → Reads (Some (simulate r)) name → rose name → ⊥) → WhyNotBegun told rose leaves o error.RetainedRead → ⊥
+  quiet-begun : (r : Run) (leaves : List Leaf) (o : Option (List ℕ)) → r.retain ≡ o → ((name : List ℕ) → Reads (Some (simulate r)) name → rose name → ⊥)
+      → WhyNotBegun told rose leaves o error.RetainedRead → ⊥
   quiet-begun r leaves None is quiet h = cc
   quiet-begun r leaves (Some name) is quiet h = quiet name (inr (inl is)) h
 
   -- a run over files whose counts did not rise did not fail
-  quiet-run : (project : Project) (r : Run) (x : Result (List ℕ) RunError) → ((name : List ℕ) → Reads (Some (simulate r)) name → rose name → ⊥) → ComesTo told rose (programs_of project) r x → ComesTo told Never (programs_of project) r x
+  quiet-run : (project : Project) (r : Run) (x : Result (List ℕ) RunError) → ((name : List ℕ) → Reads (Some (simulate r)) name → rose name → ⊥)
+      → ComesTo told rose (programs_of project) r x → ComesTo told Never (programs_of project) r x
   quiet-run project r (Ok text) quiet h = h
   quiet-run project r (Err (error.NoProgram n)) quiet h = h
   quiet-run project r (Err error.RetainedRead) quiet h = absurd (quiet-begun r h.0.laid.leaves r.retain refl quiet h.1)
@@ -321,7 +330,8 @@ module _ (one_verdict : (bytes : List ℕ) (v w : Verdict) → FileVerdict bytes
   project-read (Some (bench n)) name p = absurd (cc)
 
   -- what is fine is answered by an output
-  fine-follows : (c : Command) (name : List ℕ) (a : Answer) → file_of c ≡ Some name → IsFine told (Some c) → TellsAll told (Some c) → ((x : List ℕ) → Reads (Some c) x → rose x → ⊥) → IsFollowed told rose c name a → (text : List ℕ) × (a ≡ output text)
+  fine-follows : (c : Command) (name : List ℕ) (a : Answer) → file_of c ≡ Some name → IsFine told (Some c) → TellsAll told (Some c)
+      → ((x : List ℕ) → Reads (Some c) x → rose x → ⊥) → IsFollowed told rose c name a → (text : List ℕ) × (a ≡ output text)
   fine-follows (check n) name a is h all quiet f = (_, f.follows)
   fine-follows (compile n) name a is h all quiet f = (f.follows.text, f.follows.answer)
   fine-follows (simulate r) name a is h all quiet f =
@@ -343,7 +353,8 @@ module _ (one_verdict : (bytes : List ℕ) (v w : Verdict) → FileVerdict bytes
   fine-follows (run r) name a is h all quiet f = absurd h
   fine-follows (bench n) name a is h all quiet f = absurd h
 
-  fine-output : (command : Option Command) (a : Answer) → IsFine told command → TellsAll told command → ((x : List ℕ) → Reads command x → rose x → ⊥) → Found told rose command a → (text : List ℕ) × (a ≡ output text)
+  fine-output : (command : Option Command) (a : Answer) → IsFine told command → TellsAll told command → ((x : List ℕ) → Reads command x → rose x → ⊥)
+      → Found told rose command a → (text : List ℕ) × (a ≡ output text)
   fine-output command a h all quiet (faulty n e) = absurd (subst (IsFine told) n h)
   fine-output command a h all quiet (unbuilt t e) = absurd (not_to_come command t h)
     where

@@ -29,7 +29,8 @@ use Rattle.plcx_command.specs.declared.deciding.Taken as taken
 use Rattle.plcx_command.specs.declared.deciding.Taken.TheVariants as taken'
 
 -- the verdict on the bytes of a file is that on the file
-pub taken_whole : (told : Option (List ℕ)) (rose : Type 0) (name bytes : List ℕ) → length bytes ≤ max_file_bytes → Tells told bytes → (t : taken.Taken) → IsTaken bytes t → IsTakenFrom told rose name t
+pub taken_whole : (told : Option (List ℕ)) (rose : Type 0) (name bytes : List ℕ) → length bytes ≤ max_file_bytes → Tells told bytes → (t : taken.Taken)
+    → IsTaken bytes t → IsTakenFrom told rose name t
 taken_whole told rose name bytes short tells (taken'.Accepted c) h = record { bytes = bytes; short = short; tells = tells; keeps = h.0; checked = h.1 }
 taken_whole told rose name bytes short tells (taken'.Refused reply) h = whole bytes short tells (record { verdict = verdict.Broken h.0; judged = Refused h.1; answers = h.2 })
 
@@ -38,7 +39,8 @@ refused_alone : (next : Answer → Type 0) (v : Verdict) (a : Answer) → Answer
 refused_alone next verdict.Accepted a h = absurd h
 refused_alone next (verdict.Broken b) a h = h
 
-pub refused_over : (told : Option (List ℕ)) (rose : Type 0) (name : List ℕ) (next : List ℕ → Answer → Type 0) (a : Answer) → AfterRead told rose name long_answer (λ bytes. Judged bytes (λ _. ⊥)) a
+pub refused_over : (told : Option (List ℕ)) (rose : Type 0) (name : List ℕ) (next : List ℕ → Answer → Type 0) (a : Answer)
+    → AfterRead told rose name long_answer (λ bytes. Judged bytes (λ _. ⊥)) a
     → AfterRead told rose name long_answer (λ bytes. Judged bytes (next bytes)) a
 refused_over told rose name next a (fault r e) = fault r e
 refused_over told rose name next a (too_long l e) = too_long l e
@@ -54,7 +56,8 @@ pub diagrams_there : (told : Option (List ℕ)) (c : Checked) (file : IsAccepted
 diagrams_there told c file = record { project = c.project; keeps = file.keeps; links = c.links; types = c.types; plan = c.plan; checked = file.checked; are = refl }
 
 -- its text
-pub text_there : (told : Option (List ℕ)) (c : Checked) (file : IsAccepted told c) (text : List ℕ) (a : Answer) → IsTextOf (diagrams_of c.project c.links c.types c.plan) text → a ≡ output text → IsText file.bytes a
+pub text_there : (told : Option (List ℕ)) (c : Checked) (file : IsAccepted told c) (text : List ℕ) (a : Answer)
+    → IsTextOf (diagrams_of c.project c.links c.types c.plan) text → a ≡ output text → IsText file.bytes a
 text_there told c file text a t e = record { text = text; compiled = record { diagrams = diagrams_in c; has = diagrams_there told c file; text_of = t }; answer = e }
 
 -- ---- over a desk that tells the same
@@ -70,7 +73,8 @@ comes_wider : (told : List ℕ → Option (List ℕ)) (rose more : List ℕ → 
 comes_wider told rose more w project r (Ok text) h = h
 comes_wider told rose more w project r (Err e) h = not_wider (programs_of project) told r rose more w e h
 
-answers_wider : (told : List ℕ → Option (List ℕ)) (rose more : List ℕ → Type 0) → ((name : List ℕ) → rose name → more name) → (r : Run) (bytes : List ℕ) (a : Answer) → AnswersRun told rose r bytes a → AnswersRun told more r bytes a
+answers_wider : (told : List ℕ → Option (List ℕ)) (rose more : List ℕ → Type 0) → ((name : List ℕ) → rose name → more name) → (r : Run) (bytes : List ℕ) (a : Answer)
+    → AnswersRun told rose r bytes a → AnswersRun told more r bytes a
 answers_wider told rose more w r bytes a h = record {
   outcome = h.outcome;
   simulated = record {
@@ -82,11 +86,13 @@ answers_wider told rose more w r bytes a h = record {
   answer = h.answer;
 }
 
-pub answers_later : (told same : List ℕ → Option (List ℕ)) → ((name : List ℕ) → told name ≡ same name) → (rose more : List ℕ → Type 0) → ((name : List ℕ) → rose name → more name) → (r : Run) (bytes : List ℕ) (a : Answer)
+pub answers_later : (told same : List ℕ → Option (List ℕ)) → ((name : List ℕ) → told name ≡ same name) → (rose more : List ℕ → Type 0)
+    → ((name : List ℕ) → rose name → more name) → (r : Run) (bytes : List ℕ) (a : Answer)
     → AnswersRun told rose r bytes a → AnswersRun same more r bytes a
 answers_later told same e rose more w r bytes a h = answers_wider same rose more w r bytes a (subst (λ (t : List ℕ → Option (List ℕ)). AnswersRun t rose r bytes a) (fun_ext e) h)
 
-pub hears_later : (told same : List ℕ → Option (List ℕ)) → ((name : List ℕ) → told name ≡ same name) → (Became : List Heard → Type 0) (r : Run) (a : Answer) → HearsRun told Became r a → HearsRun same Became r a
+pub hears_later : (told same : List ℕ → Option (List ℕ)) → ((name : List ℕ) → told name ≡ same name) → (Became : List Heard → Type 0) (r : Run) (a : Answer)
+    → HearsRun told Became r a → HearsRun same Became r a
 hears_later told same e Became r a h = subst (λ (t : List ℕ → Option (List ℕ)). HearsRun t Became r a) (fun_ext e) h
 
 -- what holds of a value, with what holds where there is one
