@@ -203,20 +203,34 @@ fn blames_the_end_that_fails(rt: HostRuntime) -> Result<(), Fail> {
     Ok(())
 }
 
-/// The outputs that a motor's scans tell: three scans, four elements each, with these values.
+/// The elements that a motor's three scans evaluate, each with its value.
+const MOTOR_VALUES: [(u64, i128); 12] = [
+    (2, 1),
+    (3, 0),
+    (4, 1),
+    (5, 1),
+    (2, 0),
+    (3, 1),
+    (4, 1),
+    (5, 1),
+    (2, 0),
+    (3, 1),
+    (4, 0),
+    (5, 0),
+];
+
+/// What a watch is told of them.
 fn motor_told(alloc: Global) -> Result<Vec<Told>, Fail> {
-    let values = [1, 0, 1, 1, 0, 1, 1, 1, 0, 1, 0, 0];
     let mut told = Vec::new(alloc);
-    for (local_id, n) in [2, 3, 4, 5].into_iter().cycle().zip(values) {
-        let Some(value) = Val::new(Ty::Bool, n) else {
-            continue;
-        };
-        told.push(Told {
-            pou: 0,
-            local_id,
-            pin: 0,
-            value,
-        })?;
+    for (local_id, n) in MOTOR_VALUES {
+        if let Some(value) = Val::new(Ty::Bool, n) {
+            told.push(Told {
+                pou: 0,
+                local_id,
+                pin: 0,
+                value,
+            })?;
+        }
     }
     Ok(told)
 }
