@@ -1,0 +1,5 @@
+pub mod OneOutcome
+pub mod Chosen
+pub mod Simulated
+pub mod Listened
+pub mod Heard
