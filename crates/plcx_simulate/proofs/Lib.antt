@@ -2,4 +2,5 @@ pub mod OneOutcome
 pub mod Chosen
 pub mod Simulated
 pub mod Listened
+pub mod Lent
 pub mod Heard

@@ -130,6 +130,8 @@ fn simulated<D: Desk, W: Watch>(
     ensures heard { MatchResult result
         (λ text. Watches (D.file desk.old) (diagrams_in checked.now) (said_by_run run.now) (λ heard. watch.new ≡ fold W.told watch.old heard) (Ok text.items))
         (λ e. Watches (D.file desk.old) (diagrams_in checked.now) (said_by_run run.now) (λ heard. watch.new ≡ fold W.told watch.old heard) (Err e)) }
+    ensures files { (other : List ℕ) → D.file desk.new other ≡ D.file desk.old other }
+    ensures later { (other : List ℕ) → D.faults desk.old other ≤ D.faults desk.new other }
 {
     let layout = layout_of(alloc, checked, program)?;
     let kept = begun(alloc, desk, &layout, run.retain)?;
@@ -151,6 +153,8 @@ pub fn simulate<D: Desk, W: Watch>(
     ensures heard { MatchResult result
         (λ text. Watches (D.file desk.old) (diagrams_in checked.now) (said_by_run run.now) (λ heard. watch.new ≡ fold W.told watch.old heard) (Ok text.items))
         (λ e. Watches (D.file desk.old) (diagrams_in checked.now) (said_by_run run.now) (λ heard. watch.new ≡ fold W.told watch.old heard) (Err e)) }
+    ensures files { (other : List ℕ) → D.file desk.new other ≡ D.file desk.old other }
+    ensures later { (other : List ℕ) → D.faults desk.old other ≤ D.faults desk.new other }
 {
     let pous = checked.project().pous();
     let Some(pou) = chosen(pous, run.program) else {
