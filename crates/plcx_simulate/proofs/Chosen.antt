@@ -17,7 +17,7 @@ use Rattle.plcx_traced.specs.Programs.{IsMissing}
 use Rattle.plcx_view.specs.Declared.{kind_of_pou}
 use Rattle.plcx_view.specs.Diagrams.{pous_from, diagrams_of}
 use Rattle.plcx_simulate.specs.Programs.{programs_of}
-use Rattle.plcx_simulate.specs.Choosing.{is_program, is_program_named, count, chosen, IsProgramOf}
+use Rattle.plcx_simulate.specs.Choosing.{is_program, is_program_named, count, chosen, NamesProgram}
 
 -- diagrams of POUs: each has the kind and the name of its POU
 abbrev Shows : List Pou → List diagram.Pou → Type 0
@@ -151,7 +151,7 @@ module _ (project : Project) (links : Links) (types : Types) (plan : Plan) where
   shows = shown project links types plan 0 project.pous
 
   -- the program that was chosen is that of the run
-  pub chosen_is : (program : Option (List ℕ)) (p : Pou) → chosen program project.pous ≡ Some p → IsProgramOf (diagrams_of project links types plan) program p.name
+  pub chosen_is : (program : Option (List ℕ)) (p : Pou) → chosen program project.pous ≡ Some p → NamesProgram (diagrams_of project links types plan) program p.name
   chosen_is (Some name) p e =
       let found = named_found name project.pous (diagrams_of project links types plan) p shows e in
       record {
@@ -161,7 +161,7 @@ module _ (project : Project) (links : Links) (types : Types) (plan : Plan) where
       }
   chosen_is None p e = by (nat_eq (count project.pous) 1) refl e
     where
-      by : (b : Bool) → nat_eq (count project.pous) 1 ≡ b → (if b then find is_program project.pous else None) ≡ Some p → IsProgramOf (diagrams_of project links types plan) None p.name
+      by : (b : Bool) → nat_eq (count project.pous) 1 ≡ b → (if b then find is_program project.pous else None) ≡ Some p → NamesProgram (diagrams_of project links types plan) None p.name
       by true t f =
           let first = first_found project.pous (diagrams_of project links types plan) p shows f in
           let one : count project.pous ≡ 1 = eqb-true (count project.pous) 1 t in

@@ -7,11 +7,11 @@ use Rattle.plcx_words.specs.Command.{Run}
 use Rattle.plcx_state.specs.Layouts.{Laid, IsLaid}
 use Rattle.plcx_opening.specs.Opening.{IsLaidAs}
 use Rattle.plcx_traced.specs.Runs.{Chosen}
-use Rattle.plcx_simulate.specs.Choosing.{IsProgramOf}
+use Rattle.plcx_simulate.specs.Choosing.{NamesProgram}
 use Rattle.plcx_simulate.specs.Programs.{programs_of, diagrams_in}
 
 -- the program with its layout
-abbrev pub chosen : (checked : Checked) (r : Run) (name : List ℕ) (l : Laid) → IsProgramOf (diagrams_in checked) r.program name → IsLaidAs (diagrams_in checked) name l → IsLaid l → Chosen (programs_of (diagrams_in checked)) r
+abbrev pub chosen : (checked : Checked) (r : Run) (name : List ℕ) (l : Laid) → NamesProgram (diagrams_in checked) r.program name → IsLaidAs (diagrams_in checked) name l → IsLaid l → Chosen (programs_of (diagrams_in checked)) r
 chosen checked r name l q laid numbered = record { program = q.pou; is = q.is; laid = l; is_laid = numbered; leaves_are = (laid.laid q.pou q.named).leaves.leaves }
 
 -- what holds of a value, with what holds where there is one

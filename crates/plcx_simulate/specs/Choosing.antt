@@ -27,7 +27,7 @@ chosen (Some name) pous = find (is_program_named name) pous
 chosen None pous = if nat_eq (count pous) 1 then find is_program pous else None
 
 -- the name is that of a program of the diagrams, which is the one that a run is of
-pub record IsProgramOf (project : diagram.Project) (program : Option (List ℕ)) (name : List ℕ) : Type 0 where
+pub record NamesProgram (project : diagram.Project) (program : Option (List ℕ)) (name : List ℕ) : Type 0 where
   pub pou : diagram.Pou
   pub is : IsChosen (programs_of project) program pou
   pub named : diagram.program_named name project ≡ Some pou

@@ -10,14 +10,14 @@ ghost use Rattle.plcx_state.specs.Tables.{HasPlainNames};
 ghost use Rattle.plcx_words.specs.Says.{said_by_run};
 ghost use Rattle.plcx_opening.specs.Opening.{IsLaidAs, IsKeptFor};
 ghost use Rattle.plcx_meaning.specs.Evaluate.{DiagramState};
-ghost use Rattle.plcx_meaning.specs.Run.{Side as Begun};
+ghost use Rattle.plcx_meaning.specs.Run.{Side as MeantSide};
 ghost use Rattle.plcx_eval.specs.Sides.{IsOpened, StandsFor, last_of, laid_of, machine_of};
 ghost use Rattle.plcx_traced.specs.Files.{WhyNotFollowed};
 ghost use Rattle.plcx_traced.specs.Runs.{IsTraced, WhyNot};
 ghost use Rattle.plcx_simulate.specs.Watching.{Watches};
 ghost use Rattle.plcx_simulate.specs.Listening.{IsWatchedTrace, StopsWatched};
 ghost use Rattle.plcx_simulate.specs.Programs.{programs_of, diagrams_in};
-ghost use Rattle.plcx_simulate.specs.Choosing.{IsProgramOf};
+ghost use Rattle.plcx_simulate.specs.Choosing.{NamesProgram};
 
 use crate::choosing::{chosen, count};
 use plcx_check::Checked;
@@ -73,7 +73,7 @@ fn listened<D: Desk, W: Watch>(
     run: &Run<'_>,
 ) -> Result<Vec<u8>, RunError>
     requires time { last_of side.old.side.now ≡ 0 }
-    requires stands { (g : Begun DiagramState) × StandsFor side.old.side.now g }
+    requires stands { (g : MeantSide DiagramState) × StandsFor side.old.side.now g }
     ensures same_watch { side.new.watch.ghost_name ≡ side.old.watch.ghost_name }
     ensures ok { IfOk result (λ text. IsWatchedTrace (D.file desk.old run.now.events.now) run.now.turns side.old.side.now
         (λ heard. side.new.watch.now ≡ fold W.told side.old.watch.now heard) text.items) }
@@ -99,7 +99,7 @@ fn watched<D: Desk, W: Watch>(
     watch: &mut W,
 ) -> Result<Vec<u8>, RunError>
     requires time { last_of side.old ≡ 0 }
-    requires stands { (g : Begun DiagramState) × StandsFor side.old g }
+    requires stands { (g : MeantSide DiagramState) × StandsFor side.old g }
     ensures ok { IfOk result (λ text. IsWatchedTrace (D.file desk.old run.now.events.now) run.now.turns side.old
         (λ heard. watch.new ≡ fold W.told watch.old heard) text.items) }
     ensures plain { OnOk result (Each HasPlainNames (laid_of side.old).leaves) }
@@ -123,7 +123,7 @@ fn simulated<D: Desk, W: Watch>(
     desk: &mut D,
     watch: &mut W,
 ) -> Result<Vec<u8>, RunError>
-    requires { IsProgramOf (diagrams_in checked.now) (said_by_run run.now).program program.now }
+    requires { NamesProgram (diagrams_in checked.now) (said_by_run run.now).program program.now }
     ensures ok { IfOk result (λ text. IsTraced (D.file desk.old) (programs_of (diagrams_in checked.now)) (said_by_run run.now) text.items) }
     ensures err { IfErr result (WhyNot (D.file desk.old) (λ name. Rose (D.faults desk.old name) (D.faults desk.new name))
         (programs_of (diagrams_in checked.now)) (said_by_run run.now)) }
