@@ -3,6 +3,7 @@
 
 use plcx_command::{Status, Words, plcx};
 use plcx_io::{FileDesk, StdSink};
+use plcx_steps::Silent;
 use plcx_types::NoMemory;
 use std::alloc::Global;
 use std::env;
@@ -32,6 +33,7 @@ fn main(rt: HostRuntime) -> ExitCode {
             &mut FileDesk::new(rt),
             &mut StdSink::out(rt),
             &mut StdSink::err(rt),
+            &mut Silent,
         ),
         Err(NoMemory) => Status::NoMemory,
     };

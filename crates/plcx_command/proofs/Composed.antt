@@ -21,7 +21,7 @@ use Rattle.plcx_view.specs.Diagrams.{diagrams_of}
 use Rattle.plcx_xml.specs.declared.tree.Element.{Element}
 use Rattle.plcx_xml.specs.StandsForTree.{IsTreeOf}
 use Rattle.plcx_profile.specs.Profile.{project_in}
-use Rattle.plcx_command.specs.Compiled.{IsCompiled, IsTextOf, IsReadBack}
+use Rattle.plcx_command.specs.Compiled.{HasDiagrams, IsCompiled, IsTextOf, IsReadBack}
 
 -- what is printed of a unit that means the text of diagrams
 module _
@@ -48,16 +48,22 @@ module _
       read_back = subst (λ t. IsReadBack t diagrams) (sym is) (read_back unit diagrams range fits ready behaves);
     }
 
--- bytes have one text
-pub one_compiled : (one_root : (bytes : List ℕ) (a b : Element) → IsTreeOf bytes a → IsTreeOf bytes b → a ≡ b)
+-- bytes have one list of diagrams
+pub one_diagrams : (one_root : (bytes : List ℕ) (a b : Element) → IsTreeOf bytes a → IsTreeOf bytes b → a ≡ b)
     (one_diagram : (project : Project) (links links' : Links) (types types' : Types) (plan plan' : Plan)
     → IsChecked project links types plan → IsChecked project links' types' plan' → diagrams_of project links types plan ≡ diagrams_of project links' types' plan')
-    → (bytes a b : List ℕ) → IsCompiled bytes a → IsCompiled bytes b → a ≡ b
-one_compiled one_root one_diagram bytes a b x y =
+    → (bytes : List ℕ) (a b : diagram.Project) → HasDiagrams bytes a → HasDiagrams bytes b → a ≡ b
+one_diagrams one_root one_diagram bytes a b x y =
     let root : x.keeps.root ≡ y.keeps.root = one_root bytes x.keeps.root y.keeps.root x.keeps.tree y.keeps.tree in
     let project : x.project ≡ y.project = x.keeps.stands ∙ ap (λ (r : Element). project_in r) root ∙ sym y.keeps.stands in
     let checked : IsChecked y.project x.links x.types x.plan = subst (λ (p : Project). IsChecked p x.links x.types x.plan) project x.checked in
-    x.text_of.text_is
-    ∙ ap (λ (p : Project). printed (unit_of (diagrams_of p x.links x.types x.plan))) project
-    ∙ ap (λ (ds : diagram.Project). printed (unit_of ds)) (one_diagram y.project x.links y.links x.types y.types x.plan y.plan checked y.checked)
-    ∙ sym y.text_of.text_is
+    x.are
+    ∙ ap (λ (p : Project). diagrams_of p x.links x.types x.plan) project
+    ∙ one_diagram y.project x.links y.links x.types y.types x.plan y.plan checked y.checked
+    ∙ sym y.are
+
+-- and one text
+pub one_compiled : (one_diagrams : (bytes : List ℕ) (a b : diagram.Project) → HasDiagrams bytes a → HasDiagrams bytes b → a ≡ b)
+    → (bytes a b : List ℕ) → IsCompiled bytes a → IsCompiled bytes b → a ≡ b
+one_compiled same bytes a b x y =
+    x.text_of.text_is ∙ ap (λ (ds : diagram.Project). printed (unit_of ds)) (same bytes x.diagrams y.diagrams x.has y.has) ∙ sym y.text_of.text_is

@@ -31,7 +31,8 @@ pub root_refused : (n : Node-F Node Element) (b : model.Broken) → IsElement n 
 root_refused (Node-F.Text t) b is h = absurd is
 root_refused (Node-F.Element e) b is h = OfProfile h
 
-pub root_sound : ((root : Element) (project : model'.Project) → StandsForProject root project → Sound project) → (n : Node-F Node Element) (project : model'.Project) → StandsForRoot n project → Sound project
+pub root_sound : ((root : Element) (project : model'.Project) → StandsForProject root project → Sound project) → (n : Node-F Node Element) (project : model'.Project)
+    → StandsForRoot n project → Sound project
 root_sound sound (Node-F.Text t) project s = absurd s
 root_sound sound (Node-F.Element e) project s = sound e project s
 
@@ -61,7 +62,8 @@ refused bytes next b a h e = record { verdict = verdict.Broken b; judged = Refus
 pub accepted : (bytes : List ℕ) (project : model'.Project) (a : Answer) → Keeps bytes project → a ≡ ok_answer → checked bytes a
 accepted bytes project a h e = record { verdict = verdict.Accepted; judged = Passed project h; answers = e }
 
-pub answered : (bytes : List ℕ) (c : Checked) (text : List ℕ) (a : Answer) → Keeps bytes c.project × IsChecked c → IsTextOf (diagrams_of c.project c.links c.types c.plan) text → a ≡ output text
+pub answered : (bytes : List ℕ) (c : Checked) (text : List ℕ) (a : Answer) → Keeps bytes c.project × IsChecked c
+    → IsTextOf (diagrams_of c.project c.links c.types c.plan) text → a ≡ output text
     → compiled bytes a
 answered bytes c text a (keeps, is) t e = record {
   verdict = verdict.Accepted;

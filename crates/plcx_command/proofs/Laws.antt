@@ -1,476 +1,426 @@
 -- What each status was written for.
-use Rattle.std.proofs.Common.{◌≡◌, ◌↔◌, ℕ, List, true, refl, sym, ap, ◌∙◌, subst, inl, inr, ◌⊎◌, Option, Some, None}
+use Rattle.std.proofs.Common.{◌≡◌, ◌≢◌, ◌↔◌, ◌∙◌, ℕ, List, [], true, refl, sym, ap, subst, ◌⊎◌, inl, inr, Option, Some, None}
+use Rattle.std.specs.Prelude.{Ok, Err, unwrap_or}
 use Rattle.plcx_io.specs.Counts.{Rose}
-use Rattle.plcx_io.specs.Told.{Tells}
-use Rattle.plcx_words.specs.Command.{Command, check, compile, simulate, run, bench}
+use Rattle.plcx_meaning.specs.Evaluate.{Heard}
+use Rattle.plcx_words.specs.Command.{Command, Run, check, compile, simulate, run, bench}
 use Rattle.plcx_model.specs.declared.broken.Broken as model
-use Rattle.plcx_types.specs.Limits.{max_file_bytes}
-use Rattle.plcx_command.specs.Answer.{Answer, output, refusal, ok_line, usage_line, read_answer, read_line, broken_line, memory_answer, memory_line, not_built_line, write_line}
-use Rattle.plcx_command.specs.Verdict as verdict
-use Rattle.plcx_command.specs.Verdict.{Verdict, IsVerdict, FileVerdict, TooLong, Within, at_byte}
-use Rattle.plcx_command.specs.Says.{Says, AfterRead, fault, too_long, whole, Judged, Answers, IsText, IsAccepting, long_answer}
+use Rattle.plcx_state.specs.declared.layout.Leaf.{Leaf}
+use Rattle.plcx_traced.specs.declared.error.RunError.{RunError}
+use Rattle.plcx_traced.specs.declared.error.RunError.TheVariants as error
+use Rattle.plcx_traced.specs.Files.{WhyNotBegun}
+use Rattle.plcx_command.specs.Answer.{Answer, output, refusal, ok_line, ok_answer, usage_line, usage_answer, read_answer, read_line, broken_line, broken_answer, memory_answer, memory_line, not_built_line, not_built_answer, write_line}
 use Rattle.plcx_command.specs.Ends.{Ends, Change, Written, Gets, GetsFront, Unchanged, MaySay}
-use Rattle.plcx_command.specs.Headline.{IsDefined, file_of, IsTold, IsJudged, is_to_come, IsRefusal, CompilesExactly, ChecksExactly, RefusesUsage, RefusesBroken, RefusesNotBuilt, BlamesReads, BlamesWrites, TellsMemory, IsComplete}
+use Rattle.plcx_command.specs.Headline.{IsDefined, project_file, Reads, TellsProject, TellsAll, IsJudged, is_to_come, unread_file, IsReached, first, later, IsRefusal}
+use Rattle.plcx_command.specs.Headline.{CompilesExactly, ChecksExactly, RefusesUsage, RefusesBroken, RefusesNotBuilt, BlamesReads, BlamesWrites, TellsMemory, IsRefusing, WatchesExactly}
+use Rattle.plcx_command.specs.Hears.{Hears, HearsRun, HearsRefused}
+use Rattle.plcx_command.specs.Refused.{status_of}
+use Rattle.plcx_command.specs.Simulated.{IsSimulated, Simulates, refused_as, error_line}
+use Rattle.plcx_command.specs.Verdict as verdict
+use Rattle.plcx_command.specs.Verdict.{Verdict, FileVerdict, Within, Passed}
+use Rattle.plcx_command.specs.Compiled.{IsCompiled}
 use Rattle.plcx_command.specs.declared.status.Refused.{Refused}
 use Rattle.plcx_command.specs.declared.status.Refused.TheVariants as why'
 use Rattle.plcx_command.specs.declared.status.Status.{Status}
 use Rattle.plcx_command.specs.declared.status.Status.TheVariants as status
+use Rattle.plcx_command.proofs.Found.{tells-same, unread_to_come, IsFollowed, Found, faulty, unbuilt, unread, breaks, accepts, found, Kind, gives, refuses, kind}
+use Rattle.plcx_command.proofs.Statuses.{status_for, no_reason, defined-status, done, IsRefusedBy, refused}
 
--- what follows on a file that is accepted is an output
-abbrev OnlyOutputs : (List ℕ → Answer → Type 0) → Type 0
-OnlyOutputs next = (bytes : List ℕ) (why : Refused) (line : List ℕ) → next bytes (refusal why line) → ⊥
+-- runs are refused for no other reasons
+not_usage : (e : RunError) → refused_as e ≡ why'.Usage → ⊥
+not_usage (error.NoProgram n) h = cc
+not_usage error.RetainedRead h = cc
+not_usage (error.Line n) h = cc
+not_usage error.EventsRead h = cc
+not_usage (error.Row n) h = cc
+not_usage error.NoMemory h = cc
 
-accepting : OnlyOutputs (λ bytes a. IsAccepting a)
-accepting bytes why line e = cc
+not_broken : (e : RunError) → refused_as e ≡ why'.Broken → ⊥
+not_broken (error.NoProgram n) h = cc
+not_broken error.RetainedRead h = cc
+not_broken (error.Line n) h = cc
+not_broken error.EventsRead h = cc
+not_broken (error.Row n) h = cc
+not_broken error.NoMemory h = cc
 
-texts : OnlyOutputs IsText
-texts bytes why line t = let e = t.answer in cc
+not_unbuilt : (e : RunError) → refused_as e ≡ why'.NotBuilt → ⊥
+not_unbuilt (error.NoProgram n) h = cc
+not_unbuilt error.RetainedRead h = cc
+not_unbuilt (error.Line n) h = cc
+not_unbuilt error.EventsRead h = cc
+not_unbuilt (error.Row n) h = cc
+not_unbuilt error.NoMemory h = cc
 
--- the status of a verdict
-abbrev status_of : Verdict → Status
-status_of verdict.Accepted = status.Done
-status_of (verdict.Broken b) = status.Broken
-
--- how an answer is written, if by a status that neither memory nor the outside made
-output-done : (bytes : List ℕ) (s : Status) (out err : Change) → IsDefined s → Written (output bytes) s out err → s ≡ status.Done
-output-done bytes status.Done out err d w = refl
-output-done bytes status.Broken out err d w = absurd w
-output-done bytes status.Usage out err d w = absurd w
-output-done bytes status.NotBuilt out err d w = absurd w
-output-done bytes status.ReadFault out err d w = absurd d
-output-done bytes status.WriteFault out err d w = absurd d
-output-done bytes status.NoMemory out err d w = absurd d
-
--- the reason of a refusal, by its status
-reason : (why : Refused) (line : List ℕ) (s : Status) (out err : Change) → IsDefined s → Written (refusal why line) s out err
-    → ((why ≡ why'.Broken) × (s ≡ status.Broken)) ⊎ (((why ≡ why'.Usage) × (s ≡ status.Usage)) ⊎ ((why ≡ why'.NotBuilt) × (s ≡ status.NotBuilt)))
-reason why line status.Done out err d w = absurd w
-reason why line status.Broken out err d w = inl (w.0, refl)
-reason why line status.Usage out err d w = inr (inl (w.0, refl))
-reason why line status.NotBuilt out err d w = inr (inr (w.0, refl))
-reason why line status.ReadFault out err d w = absurd d
-reason why line status.WriteFault out err d w = absurd d
-reason why line status.NoMemory out err d w = absurd d
-
-broken-is : (line : List ℕ) (s : Status) (out err : Change) → IsDefined s → Written (refusal why'.Broken line) s out err → s ≡ status.Broken
-broken-is line s out err d w = elim (reason why'.Broken line s out err d w) [ inl h ↦ h.1 | inr (inl h) ↦ let e = h.0 in absurd (cc) | inr (inr h) ↦ let e = h.0 in absurd (cc) ]
-
-not_built-is : (line : List ℕ) (s : Status) (out err : Change) → IsDefined s → Written (refusal why'.NotBuilt line) s out err → s ≡ status.NotBuilt
-not_built-is line s out err d w = elim (reason why'.NotBuilt line s out err d w) [ inl h ↦ let e = h.0 in absurd (cc) | inr (inl h) ↦ let e = h.0 in absurd (cc) | inr (inr h) ↦ h.1 ]
-
-usage-is : (line : List ℕ) (s : Status) (out err : Change) → IsDefined s → Written (refusal why'.Usage line) s out err → s ≡ status.Usage
-usage-is line s out err d w = elim (reason why'.Usage line s out err d w) [ inl h ↦ let e = h.0 in absurd (cc) | inr (inl h) ↦ h.1 | inr (inr h) ↦ let e = h.0 in absurd (cc) ]
-
-read-undefined : (line : List ℕ) (s : Status) (out err : Change) → IsDefined s → Written (refusal why'.ReadFault line) s out err → ⊥
-read-undefined line s out err d w = elim (reason why'.ReadFault line s out err d w) [ inl h ↦ let e = h.0 in cc | inr (inl h) ↦ let e = h.0 in cc | inr (inr h) ↦ let e = h.0 in cc ]
-
-memory-undefined : (s : Status) (out err : Change) → IsDefined s → Written memory_answer s out err → ⊥
-memory-undefined s out err d w = elim (reason why'.NoMemory memory_line s out err d w) [ inl h ↦ let e = h.0 in cc | inr (inl h) ↦ let e = h.0 in cc | inr (inr h) ↦ let e = h.0 in cc ]
-
--- the status by the verdict that is answered
-by-verdict : (next : List ℕ → Answer → Type 0) → OnlyOutputs next → (bytes : List ℕ) (v : Verdict) (a : Answer) (s : Status) (out err : Change)
-    → Answers (next bytes) v a → IsDefined s → Written a s out err → s ≡ status_of v
-by-verdict next only bytes verdict.Accepted (output text) s out err n d w = output-done text s out err d w
-by-verdict next only bytes verdict.Accepted (refusal why line) s out err n d w = absurd (only bytes why line n)
-by-verdict next only bytes (verdict.Broken b) a s out err e d w = broken-is (broken_line b) s out err d (rw e at w)
-
-done-accepted : (v : Verdict) → status_of v ≡ status.Done → v ≡ verdict.Accepted
-done-accepted verdict.Accepted e = refl
-done-accepted (verdict.Broken b) e = absurd (cc)
-
-broken-verdict : (v : Verdict) → status_of v ≡ status.Broken → (b : model.Broken) × (v ≡ verdict.Broken b)
-broken-verdict verdict.Accepted e = absurd (cc)
-broken-verdict (verdict.Broken b) e = (b, refl)
+only_memory : (e : RunError) → refused_as e ≡ why'.NoMemory → e ≡ error.NoMemory
+only_memory (error.NoProgram n) h = absurd (cc)
+only_memory error.RetainedRead h = absurd (cc)
+only_memory (error.Line n) h = absurd (cc)
+only_memory error.EventsRead h = absurd (cc)
+only_memory (error.Row n) h = absurd (cc)
+only_memory error.NoMemory h = refl
 
 module _ (one_verdict : (bytes : List ℕ) (v w : Verdict) → FileVerdict bytes v → FileVerdict bytes w → v ≡ w)
-    (told : List ℕ → Option (List ℕ)) (rose : List ℕ → Type 0) where
-  -- what is answered after the file of a name was read
-  abbrev FileSays : (List ℕ → Answer → Type 0) → List ℕ → Answer → Type 0
-  FileSays next name a = AfterRead (told name) (rose name) name long_answer (λ bytes. Judged bytes (next bytes)) a
+    (told : List ℕ → Option (List ℕ)) (rose : List ℕ → Type 0) (Became : List Heard → Type 0) where
+  -- what was found of an answer, whose status is its own
+  pub record IsAnswered (command : Option Command) (a : Answer) (s : Status) : Type 0 where
+    pub found : Found told rose command a
+    pub status : s ≡ status_for a
 
-  -- a file that is told has these bytes and no others
-  tells-same : (name bytes held : List ℕ) → told name ≡ Some held → Tells (told name) bytes → bytes ≡ held
-  tells-same name bytes held e t = (rw e at t)
+  pub answered : (command : Option Command) (s : Status) (out err : Change) → IsDefined s → (ends : Ends told rose Became command s out err) → IsAnswered command ends.answer s
+  answered command s out err d ends = by ends.said (defined-status ends.answer s out err d ends.written)
+    where
+      by : MaySay told rose command ends.answer → s ≡ status_for ends.answer → IsAnswered command ends.answer s
+      by (inl says) e = record { found = found told rose command ends.answer says; status = e }
+      by (inr m) e = absurd (subst IsDefined (e ∙ ap status_for m) d)
 
-  -- the verdict on a file that is told, and its answer
-  record IsAnswered (next : List ℕ → Answer → Type 0) (bytes : List ℕ) (a : Answer) : Type 0 where
-    pub verdict : Verdict
-    pub judged : FileVerdict bytes verdict
-    pub answers : Answers (next bytes) verdict a
+  -- what was found of a refusal that tells no want of memory
+  pub found-refusal : (why : Refused) (command : Option Command) (a : Answer) (line : List ℕ) → why ≢ why'.NoMemory → a ≡ refusal why line
+      → MaySay told rose command a → Found told rose command a
+  found-refusal why command a line ne is (inl says) = found told rose command a says
+  found-refusal why command a line ne is (inr m) = let both : refusal why line ≡ memory_answer = sym is ∙ m in let same : why ≡ why'.NoMemory = cc in absurd (ne same)
 
-  file-answer : (next : List ℕ → Answer → Type 0) (name bytes : List ℕ) (a : Answer) → told name ≡ Some bytes → FileSays next name a
-      → (rose name × (a ≡ read_answer name)) ⊎ IsAnswered next bytes a
-  file-answer next name bytes a k (fault r e) = inl (r, e)
-  file-answer next name bytes a k (too_long l e) = inr (record { verdict = verdict.Broken (at_byte 7 max_file_bytes); judged = TooLong (rw k at l); answers = e })
-  file-answer next name bytes a k (whole got l t j) =
-      let same : got ≡ bytes = tells-same name got bytes k t in
-      inr (subst (λ (b : List ℕ). IsAnswered next b a) same (record { verdict = j.verdict; judged = Within l j.judged; answers = j.answers }))
+  -- ---- words that are a faulty command line
 
-  -- the verdict by which a file that is told was answered
-  answered : (next : List ℕ → Answer → Type 0) (name bytes : List ℕ) (a : Answer) (s : Status) (out err : Change)
-      → told name ≡ Some bytes → IsDefined s → FileSays next name a ⊎ (a ≡ memory_answer) → Written a s out err → IsAnswered next bytes a
-  answered next name bytes a s out err k d (inl says) w = elim (file-answer next name bytes a k says) [
-    | inl f ↦ absurd (read-undefined (read_line name) s out err d (rw f.1 at w))
-    | inr answer ↦ answer
+  usage-found : (command : Option Command) (a : Answer) (line : List ℕ) → a ≡ refusal why'.Usage line → Found told rose command a → (command ≡ None) × (line ≡ usage_line)
+  usage-found command a line is (faulty n e) = (n, cc)
+  usage-found command a line is (unbuilt t e) = absurd (cc)
+  usage-found command a line is (unread name p r e) = absurd (cc)
+  usage-found command a line is (breaks b name p v e) = absurd (cc)
+  usage-found command a line is (accepts c n name p f) = elim (kind told rose c f.bytes a f.follows) [
+    | gives text e ↦ absurd (cc)
+    | refuses r s x i e ↦ let same : refused_as x ≡ why'.Usage = cc in absurd (not_usage x same)
   ]
-  answered next name bytes a s out err k d (inr m) w = absurd (memory-undefined s out err d (rw m at w))
 
-  -- the status of a file that is told, by its verdict
-  record IsByVerdict (bytes : List ℕ) (s : Status) : Type 0 where
-    pub verdict : Verdict
-    pub judged : FileVerdict bytes verdict
-    pub status : s ≡ status_of verdict
+  none-usage : (command : Option Command) (a : Answer) → command ≡ None → Found told rose command a → a ≡ usage_answer
+  none-usage command a n (faulty m e) = e
+  none-usage command a n (unbuilt t e) = absurd (cc)
+  none-usage command a n (unread name p r e) = absurd (cc)
+  none-usage command a n (breaks b name p v e) = absurd (cc)
+  none-usage command a n (accepts c m name p f) = absurd (cc)
 
-  by_verdict : (next : List ℕ → Answer → Type 0) → OnlyOutputs next → (name bytes : List ℕ) (a : Answer) (s : Status) (out err : Change)
-      → told name ≡ Some bytes → IsDefined s → FileSays next name a ⊎ (a ≡ memory_answer) → Written a s out err → IsByVerdict bytes s
-  by_verdict next only name bytes a s out err k d says w =
-      let answer = answered next name bytes a s out err k d says w in
-      record { verdict = answer.verdict; judged = answer.judged; status = by-verdict next only bytes answer.verdict a s out err answer.answers d w }
-
-  done-exactly : (bytes : List ℕ) (s : Status) → IsByVerdict bytes s → (s ≡ status.Done) ↔ FileVerdict bytes verdict.Accepted
-  done-exactly bytes s by = (
-    (λ e. subst (FileVerdict bytes) (done-accepted by.verdict (sym by.status ∙ e)) by.judged),
-    (λ h. by.status ∙ ap status_of (one_verdict bytes by.verdict verdict.Accepted by.judged h)),
+  pub refuses_usage : (command : Option Command) (s : Status) (out err : Change) → Ends told rose Became command s out err → RefusesUsage command s out err
+  refuses_usage command s out err ends = (
+    (λ d. (
+      (λ e. (usage-found command ends.answer (of e).line (of e).is (said e)).0),
+      (λ n. let a = answered command s out err d ends in a.status ∙ ap status_for (none-usage command ends.answer n a.found)),
+    )),
+    (λ e. (subst (Gets err) (usage-found command ends.answer (of e).line (of e).is (said e)).1 (of e).gets, (of e).quiet)),
   )
+    where
+      of : s ≡ status.Usage → IsRefusedBy why'.Usage ends.answer out err
+      of e = refused why'.Usage ends.answer s out err e ends.written
 
-  -- an answer to a file that is accepted is what follows
-  follows : (next : List ℕ → Answer → Type 0) → OnlyOutputs next → (name bytes : List ℕ) (a : Answer) (s : Status) (out err : Change)
-      → told name ≡ Some bytes → s ≡ status.Done → FileSays next name a ⊎ (a ≡ memory_answer) → Written a s out err → next bytes a
-  follows next only name bytes a s out err k e says w =
-      let d : IsDefined s = subst IsDefined (sym e) tt in
-      let answer = answered next name bytes a s out err k d says w in
-      let by = by-verdict next only bytes answer.verdict a s out err answer.answers d w in
-      let accepted : answer.verdict ≡ verdict.Accepted = done-accepted answer.verdict (sym by ∙ e) in
-      subst (λ (v : Verdict). Answers (next bytes) v a) accepted answer.answers
+      said : s ≡ status.Usage → Found told rose command ends.answer
+      said e = found-refusal why'.Usage command ends.answer (of e).line (λ x. cc) (of e).is ends.said
 
-  check-says : (name : List ℕ) (a : Answer) → MaySay told rose (Some (check name)) a → FileSays (λ bytes x. IsAccepting x) name a ⊎ (a ≡ memory_answer)
-  check-says name a (inl s) = inl s
-  check-says name a (inr m) = inr m
+  -- ---- what is not built
 
-  compile-says : (name : List ℕ) (a : Answer) → MaySay told rose (Some (compile name)) a → FileSays IsText name a ⊎ (a ≡ memory_answer)
-  compile-says name a (inl s) = inl s
-  compile-says name a (inr m) = inr m
-
-  done-text : (bytes text : List ℕ) (a : Answer) (s : Status) (out err : Change) → a ≡ output text → s ≡ status.Done → Written a s out err → Gets out text × Unchanged err
-  done-text bytes text a s out err e d w = rw (e, d) at w
-
-  pub checks_exactly : (command : Option Command) (s : Status) (out err : Change) → Ends told rose command s out err → ChecksExactly told command s out err
-  checks_exactly command s out err ends name bytes is k d =
-      let says = check-says name ends.answer (rw is at ends.said) in (
-        done-exactly bytes s (by_verdict _ accepting name bytes ends.answer s out err k d says ends.written),
-        (λ e. done-text bytes ok_line ends.answer s out err (follows _ accepting name bytes ends.answer s out err k e says ends.written) e ends.written),
-      )
-
-  pub compiles_exactly : (command : Option Command) (s : Status) (out err : Change) → Ends told rose command s out err → CompilesExactly told command s out err
-  compiles_exactly command s out err ends name bytes is k d =
-      let says = compile-says name ends.answer (rw is at ends.said) in (
-        done-exactly bytes s (by_verdict IsText texts name bytes ends.answer s out err k d says ends.written),
-        (λ e.
-            let t = follows IsText texts name bytes ends.answer s out err k e says ends.written in
-            let got = done-text bytes t.text ends.answer s out err t.answer e ends.written in
-            (t.text, t.compiled, got.0, got.1)),
-      )
-
-  -- the verdict behind a status, whatever the action
-  any-verdict : (command : Option Command) (name bytes : List ℕ) (a : Answer) (s : Status) (out err : Change) → file_of command ≡ Some name
-      → told name ≡ Some bytes → IsDefined s → MaySay told rose command a → Written a s out err → IsByVerdict bytes s
-  any-verdict (Some (check n)) name bytes a s out err is k d says w =
-      let same : n ≡ name = cc in by_verdict _ accepting name bytes a s out err k d (check-says name a (rw same at says)) w
-  any-verdict (Some (compile n)) name bytes a s out err is k d says w =
-      let same : n ≡ name = cc in by_verdict IsText texts name bytes a s out err k d (compile-says name a (rw same at says)) w
-  any-verdict (Some (simulate r)) name bytes a s out err is k d says w = absurd (cc)
-  any-verdict (Some (run r)) name bytes a s out err is k d says w = absurd (cc)
-  any-verdict (Some (bench n)) name bytes a s out err is k d says w = absurd (cc)
-  any-verdict None name bytes a s out err is k d says w = absurd (cc)
-
-  -- the file of a command whose status is a broken rule or no memory of the tool's own
-  reads-file : (command : Option Command) (a : Answer) (s : Status) (out err : Change) → IsDefined s → MaySay told rose command a → Written a s out err
-      → ((name : List ℕ) × (file_of command ≡ Some name)) ⊎ (((is_to_come command ≡ true) × (s ≡ status.NotBuilt)) ⊎ ((command ≡ None) × (s ≡ status.Usage)))
-  reads-file (Some (check n)) a s out err d says w = inl (n, refl)
-  reads-file (Some (compile n)) a s out err d says w = inl (n, refl)
-  reads-file (Some (simulate r)) a s out err d (inl e) w = inr (inl (refl, not_built-is not_built_line s out err d (rw e at w)))
-  reads-file (Some (run r)) a s out err d (inl e) w = inr (inl (refl, not_built-is not_built_line s out err d (rw e at w)))
-  reads-file (Some (bench n)) a s out err d (inl e) w = inr (inl (refl, not_built-is not_built_line s out err d (rw e at w)))
-  reads-file (Some (simulate r)) a s out err d (inr m) w = absurd (memory-undefined s out err d (rw m at w))
-  reads-file (Some (run r)) a s out err d (inr m) w = absurd (memory-undefined s out err d (rw m at w))
-  reads-file (Some (bench n)) a s out err d (inr m) w = absurd (memory-undefined s out err d (rw m at w))
-  reads-file None a s out err d (inl e) w = inr (inr (refl, usage-is usage_line s out err d (rw e at w)))
-  reads-file None a s out err d (inr m) w = absurd (memory-undefined s out err d (rw m at w))
-
-  -- a file that is told has one verdict, by which the status was written
-  judged-status : (command : Option Command) (v : Verdict) (a : Answer) (s : Status) (out err : Change) → IsDefined s → MaySay told rose command a → Written a s out err
-      → IsJudged told command v → s ≡ status_of v
-  judged-status command v a s out err d says w j =
-      let by = any-verdict command j.name j.bytes a s out err j.reads j.tells d says w in
-      by.status ∙ ap status_of (one_verdict j.bytes by.verdict v by.judged j.judged)
-
-  status-judged : (command : Option Command) (a : Answer) (s : Status) (out err : Change) → IsTold told command → IsDefined s → MaySay told rose command a → Written a s out err
-      → (name : List ℕ) → file_of command ≡ Some name → (v : Verdict) × IsJudged told command v × (s ≡ status_of v)
-  status-judged command a s out err k d says w name is =
-      let held = k name is in
-      let by = any-verdict command name held.0 a s out err is held.1 d says w in
-      (by.verdict, record { name = name; bytes = held.0; reads = is; tells = held.1; judged = by.judged }, by.status)
-
-  broken-judged : (command : Option Command) (a : Answer) (s : Status) (out err : Change) → IsTold told command → IsDefined s → MaySay told rose command a → Written a s out err
-      → s ≡ status.Broken → (b : model.Broken) × IsJudged told command (verdict.Broken b)
-  broken-judged command a s out err k d says w e = elim (reads-file command a s out err d says w) [
-    | inl file ↦
-        let found = status-judged command a s out err k d says w file.0 file.1 in
-        let b = broken-verdict found.0 (sym found.2 ∙ e) in
-        (b.0, subst (IsJudged told command) b.1 found.1)
-    | inr (inl to_come) ↦ let is = to_come.1 in absurd (cc)
-    | inr (inr none) ↦ let is = none.1 in absurd (cc)
+  unbuilt-found : (command : Option Command) (a : Answer) (line : List ℕ) → a ≡ refusal why'.NotBuilt line → Found told rose command a
+      → (is_to_come command ≡ true) × (line ≡ not_built_line)
+  unbuilt-found command a line is (faulty n e) = absurd (cc)
+  unbuilt-found command a line is (unbuilt t e) = (t, cc)
+  unbuilt-found command a line is (unread name p r e) = absurd (cc)
+  unbuilt-found command a line is (breaks b name p v e) = absurd (cc)
+  unbuilt-found command a line is (accepts c n name p f) = elim (kind told rose c f.bytes a f.follows) [
+    | gives text e ↦ absurd (cc)
+    | refuses r s x i e ↦ let same : refused_as x ≡ why'.NotBuilt = cc in absurd (not_unbuilt x same)
   ]
+
+  to_come-unbuilt : (command : Option Command) (a : Answer) → is_to_come command ≡ true → Found told rose command a → a ≡ not_built_answer
+  to_come-unbuilt command a t (faulty n e) = absurd (cc)
+  to_come-unbuilt command a t (unbuilt u e) = e
+  to_come-unbuilt command a t (unread name p r e) = absurd (unread_to_come command name t p)
+  to_come-unbuilt command a t (breaks b name p v e) = absurd (unread_to_come command name t p)
+  to_come-unbuilt command a t (accepts c n name p f) = absurd (unread_to_come command name t p)
+
+  pub refuses_not_built : (command : Option Command) (s : Status) (out err : Change) → Ends told rose Became command s out err → RefusesNotBuilt command s out err
+  refuses_not_built command s out err ends = (
+    (λ d. (
+      (λ e. (unbuilt-found command ends.answer (of e).line (of e).is (said e)).0),
+      (λ t. let a = answered command s out err d ends in a.status ∙ ap status_for (to_come-unbuilt command ends.answer t a.found)),
+    )),
+    (λ e. (subst (Gets err) (unbuilt-found command ends.answer (of e).line (of e).is (said e)).1 (of e).gets, (of e).quiet)),
+  )
+    where
+      of : s ≡ status.NotBuilt → IsRefusedBy why'.NotBuilt ends.answer out err
+      of e = refused why'.NotBuilt ends.answer s out err e ends.written
+
+      said : s ≡ status.NotBuilt → Found told rose command ends.answer
+      said e = found-refusal why'.NotBuilt command ends.answer (of e).line (λ x. cc) (of e).is ends.said
+
+  -- ---- broken rules
 
   -- the line of a broken rule
   record IsBrokenLine (command : Option Command) (line : List ℕ) : Type 0 where
     pub broken : model.Broken
     pub line_is : line ≡ broken_line broken
-    pub judged : IsTold told command → IsJudged told command (verdict.Broken broken)
+    pub name : List ℕ
+    pub reads : project_file command ≡ Some name
+    pub judged : (bytes : List ℕ) → told name ≡ Some bytes → FileVerdict bytes (verdict.Broken broken)
 
-  file-broken : (next : List ℕ → Answer → Type 0) → OnlyOutputs next → (command : Option Command) (name line : List ℕ) → file_of command ≡ Some name
-      → FileSays next name (refusal why'.Broken line) → IsBrokenLine command line
-  file-broken next only command name line is (fault r e) = absurd (cc)
-  file-broken next only command name line is (too_long l e) = record {
-    broken = at_byte 7 max_file_bytes;
-    line_is = cc;
-    judged = λ k. let held = k name is in record { name = name; bytes = held.0; reads = is; tells = held.1; judged = TooLong (rw held.1 at l) };
-  }
-  file-broken next only command name line is (whole got l t j) = judged-line j.verdict j.judged j.answers
-    where
-      judged-line : (v : Verdict) → IsVerdict got v → Answers (next got) v (refusal why'.Broken line) → IsBrokenLine command line
-      judged-line verdict.Accepted h n = absurd (only got _ line n)
-      judged-line (verdict.Broken b) h e = record {
-        broken = b;
-        line_is = cc;
-        judged = λ k.
-            let held = k name is in
-            let same : got ≡ held.0 = tells-same name got held.0 held.1 t in
-            record { name = name; bytes = held.0; reads = is; tells = held.1; judged = subst (λ (x : List ℕ). FileVerdict x (verdict.Broken b)) same (Within l h) };
-      }
+  broken-found : (command : Option Command) (a : Answer) (line : List ℕ) → a ≡ refusal why'.Broken line → Found told rose command a → IsBrokenLine command line
+  broken-found command a line is (faulty n e) = absurd (cc)
+  broken-found command a line is (unbuilt t e) = absurd (cc)
+  broken-found command a line is (unread name p r e) = absurd (cc)
+  broken-found command a line is (breaks b name p v e) = record { broken = b; line_is = cc; name = name; reads = p; judged = v }
+  broken-found command a line is (accepts c n name p f) = elim (kind told rose c f.bytes a f.follows) [
+    | gives text e ↦ absurd (cc)
+    | refuses r s x i e ↦ let same : refused_as x ≡ why'.Broken = cc in absurd (not_broken x same)
+  ]
 
-  says-broken : (command : Option Command) (line : List ℕ) → Says told rose command (refusal why'.Broken line) → IsBrokenLine command line
-  says-broken (Some (check name)) line s = file-broken _ accepting (Some (check name)) name line refl s
-  says-broken (Some (compile name)) line s = file-broken IsText texts (Some (compile name)) name line refl s
-  says-broken (Some (simulate r)) line e = absurd (cc)
-  says-broken (Some (run r)) line e = absurd (cc)
-  says-broken (Some (bench n)) line e = absurd (cc)
-  says-broken None line e = absurd (cc)
+  line-judged : (command : Option Command) (line : List ℕ) (l : IsBrokenLine command line) → TellsProject told command → IsJudged told command (verdict.Broken l.broken)
+  line-judged command line l k = let held = k l.name l.reads in record { name = l.name; bytes = held.0; reads = l.reads; tells = held.1; judged = l.judged held.0 held.1 }
 
-  written-broken : (command : Option Command) (a : Answer) (out err : Change) → MaySay told rose command a → Written a status.Broken out err
-      → (b : model.Broken) × (IsTold told command → IsJudged told command (verdict.Broken b)) × Gets err (broken_line b) × Unchanged out
-  written-broken command (output bytes) out err s w = absurd w
-  written-broken command (refusal why line) out err (inl s) w =
-      let found = says-broken command line (rw w.0 at s) in
-      (found.broken, found.judged, rw (← found.line_is) w.1, w.2)
-  written-broken command (refusal why line) out err (inr m) w = let e = w.0 in absurd (cc)
+  -- the verdict on a file that is accepted
+  pub accepted-verdict : (c : Command) (name bytes : List ℕ) (a : Answer) → told name ≡ Some bytes → IsFollowed told rose c name a → FileVerdict bytes verdict.Accepted
+  accepted-verdict c name bytes a k f = subst (λ (x : List ℕ). FileVerdict x verdict.Accepted) (tells-same (told name) f.bytes bytes k f.tells) (Within f.short (Passed f.project f.keeps))
 
-  pub refuses_broken : (command : Option Command) (s : Status) (out err : Change) → Ends told rose command s out err → RefusesBroken told command s out err
+  judged-broken : (command : Option Command) (a : Answer) (s : Status) (b : model.Broken) → IsDefined s → s ≡ status_for a → IsJudged told command (verdict.Broken b)
+      → Found told rose command a → s ≡ status.Broken
+  judged-broken command a s b d st j (faulty n e) = let p = j.reads in absurd (cc)
+  judged-broken command a s b d st j (unbuilt t e) = absurd (unread_to_come command j.name t j.reads)
+  judged-broken command a s b d st j (unread name p r e) = absurd (subst IsDefined (st ∙ ap status_for e) d)
+  judged-broken command a s b d st j (breaks b' name p v e) = st ∙ ap status_for e
+  judged-broken command a s b d st j (accepts c n name p f) =
+      let q = j.reads in
+      let same : name ≡ j.name = cc in
+      let accepted = accepted-verdict c name j.bytes a (ap told same ∙ j.tells) f in
+      let both : verdict.Accepted ≡ verdict.Broken b = one_verdict j.bytes verdict.Accepted (verdict.Broken b) accepted j.judged in
+      absurd (cc)
+
+  pub refuses_broken : (command : Option Command) (s : Status) (out err : Change) → Ends told rose Became command s out err → RefusesBroken told command s out err
   refuses_broken command s out err ends = (
     (λ k d. (
-      (λ e. broken-judged command ends.answer s out err k d ends.said ends.written e),
-      (λ h. judged-status command (verdict.Broken h.0) ends.answer s out err d ends.said ends.written h.1),
+      (λ e. ((line e).broken, line-judged command (of e).line (line e) k)),
+      (λ h. let a = answered command s out err d ends in judged-broken command ends.answer s h.0 d a.status h.1 a.found),
     )),
-    (λ e. written-broken command ends.answer out err ends.said (rw e at ends.written)),
+    (λ e. ((line e).broken, line-judged command (of e).line (line e), subst (Gets err) (line e).line_is (of e).gets, (of e).quiet)),
+  )
+    where
+      of : s ≡ status.Broken → IsRefusedBy why'.Broken ends.answer out err
+      of e = refused why'.Broken ends.answer s out err e ends.written
+
+      line : (e : s ≡ status.Broken) → IsBrokenLine command (of e).line
+      line e = broken-found command ends.answer (of e).line (of e).is (found-refusal why'.Broken command ends.answer (of e).line (λ x. cc) (of e).is ends.said)
+
+  -- ---- outputs of files that are accepted
+
+  -- a file that is told is accepted, and then the action answered; or it breaks a rule
+  pub data ByVerdict (command : Option Command) (name bytes : List ℕ) (a : Answer) : Type 0 where
+    passes : (c : Command) → command ≡ Some c → FileVerdict bytes verdict.Accepted → IsFollowed told rose c name a → ByVerdict command name bytes a
+    fails : (b : model.Broken) → FileVerdict bytes (verdict.Broken b) → a ≡ broken_answer b → ByVerdict command name bytes a
+
+  pub by_verdict : (command : Option Command) (name bytes : List ℕ) (a : Answer) (s : Status) → project_file command ≡ Some name → told name ≡ Some bytes
+      → IsDefined s → IsAnswered command a s → ByVerdict command name bytes a
+  by_verdict command name bytes a s is k d answer = by answer.found answer.status
+    where
+      by : Found told rose command a → s ≡ status_for a → ByVerdict command name bytes a
+      by (faulty n e) st = absurd (cc)
+      by (unbuilt t e) st = absurd (unread_to_come command name t is)
+      by (unread other p r e) st = absurd (subst IsDefined (st ∙ ap status_for e) d)
+      by (breaks b other p v e) st = let same : other ≡ name = cc in fails b (v bytes (ap told same ∙ k)) e
+      by (accepts c n other p f) st =
+          let same : other ≡ name = cc in
+          let own = subst (λ (x : List ℕ). IsFollowed told rose c x a) same f in
+          passes c n (accepted-verdict c name bytes a k own) own
+
+  -- where an action gives nothing but outputs, it is done exactly with a file that is accepted
+  done-exactly : (command : Option Command) (name bytes : List ℕ) (a : Answer) (s : Status) → s ≡ status_for a
+      → ((c : Command) → command ≡ Some c → IsFollowed told rose c name a → status_for a ≡ status.Done) → ByVerdict command name bytes a → (s ≡ status.Done) ↔ FileVerdict bytes verdict.Accepted
+  done-exactly command name bytes a s st outputs (passes c n v f) = ((λ _. v), (λ _. st ∙ outputs c n f))
+  done-exactly command name bytes a s st outputs (fails b v e) = (
+    (λ d. let both : status.Done ≡ status.Broken = sym d ∙ st ∙ ap status_for e in absurd (cc)),
+    (λ h. let both : verdict.Accepted ≡ verdict.Broken b = one_verdict bytes verdict.Accepted (verdict.Broken b) h v in absurd (cc)),
   )
 
-  to_come-not_built : (command : Option Command) (a : Answer) (s : Status) (out err : Change) → IsDefined s → MaySay told rose command a → Written a s out err
-      → is_to_come command ≡ true → s ≡ status.NotBuilt
-  to_come-not_built (Some (check n)) a s out err d says w e = absurd (cc)
-  to_come-not_built (Some (compile n)) a s out err d says w e = absurd (cc)
-  to_come-not_built (Some (simulate r)) a s out err d (inl says) w e = not_built-is not_built_line s out err d (rw says at w)
-  to_come-not_built (Some (run r)) a s out err d (inl says) w e = not_built-is not_built_line s out err d (rw says at w)
-  to_come-not_built (Some (bench n)) a s out err d (inl says) w e = not_built-is not_built_line s out err d (rw says at w)
-  to_come-not_built (Some (simulate r)) a s out err d (inr m) w e = absurd (memory-undefined s out err d (rw m at w))
-  to_come-not_built (Some (run r)) a s out err d (inr m) w e = absurd (memory-undefined s out err d (rw m at w))
-  to_come-not_built (Some (bench n)) a s out err d (inr m) w e = absurd (memory-undefined s out err d (rw m at w))
-  to_come-not_built None a s out err d says w e = absurd (cc)
+  -- what is done follows on a file that is accepted
+  pub done-passes : (command : Option Command) (name bytes : List ℕ) (a : Answer) (text : List ℕ) → a ≡ output text → ByVerdict command name bytes a
+      → (c : Command) × (command ≡ Some c) × IsFollowed told rose c name a
+  done-passes command name bytes a text is (passes c n v f) = (c, n, f)
+  done-passes command name bytes a text is (fails b v e) = absurd (cc)
 
-  -- an action that is there answers no such refusal
-  file-line : (next : List ℕ → Answer → Type 0) → OnlyOutputs next → (name line : List ℕ) → FileSays next name (refusal why'.NotBuilt line) → ⊥
-  file-line next only name line (fault r e) = cc
-  file-line next only name line (too_long l e) = cc
-  file-line next only name line (whole got l t j) = judged-line j.verdict j.answers
-    where
-      judged-line : (v : Verdict) → Answers (next got) v (refusal why'.NotBuilt line) → ⊥
-      judged-line verdict.Accepted n = only got _ line n
-      judged-line (verdict.Broken b) e = cc
+  check-outputs : (name : List ℕ) (a : Answer) (c : Command) → check name ≡ c → IsFollowed told rose c name a → a ≡ ok_answer
+  check-outputs name a (check n) is f = f.follows
+  check-outputs name a (compile n) is f = absurd (cc)
+  check-outputs name a (simulate r) is f = absurd (cc)
+  check-outputs name a (run r) is f = absurd (cc)
+  check-outputs name a (bench n) is f = absurd (cc)
 
-  says-line : (command : Option Command) (line : List ℕ) → Says told rose command (refusal why'.NotBuilt line) → (is_to_come command ≡ true) × (line ≡ not_built_line)
-  says-line (Some (check name)) line s = absurd (file-line _ accepting name line s)
-  says-line (Some (compile name)) line s = absurd (file-line IsText texts name line s)
-  says-line (Some (simulate r)) line e = (refl, cc)
-  says-line (Some (run r)) line e = (refl, cc)
-  says-line (Some (bench n)) line e = (refl, cc)
-  says-line None line e = absurd (cc)
+  pub checks_exactly : (command : Option Command) (s : Status) (out err : Change) → Ends told rose Became command s out err → ChecksExactly told command s out err
+  checks_exactly command s out err ends name bytes is k d =
+      let answer = answered command s out err d ends in
+      let by = by_verdict command name bytes ends.answer s (ap project_file is) k d answer in (
+        done-exactly command name bytes ends.answer s answer.status (λ c n f. let same : check name ≡ c = cc in ap status_for (check-outputs name ends.answer c same f)) by,
+        (λ e.
+            let w = done ends.answer s out err e ends.written in
+            let p = done-passes command name bytes ends.answer w.text w.is by in
+            let n = p.1 in
+            let same : check name ≡ p.0 = cc in
+            let text : w.text ≡ ok_line = let both : output w.text ≡ ok_answer = sym w.is ∙ check-outputs name ends.answer p.0 same p.2 in cc in
+            (subst (Gets out) text w.gets, w.quiet)),
+      )
 
-  written-line : (command : Option Command) (a : Answer) (out err : Change) → MaySay told rose command a → Written a status.NotBuilt out err
-      → (is_to_come command ≡ true) × Gets err not_built_line × Unchanged out
-  written-line command (output bytes) out err s w = absurd w
-  written-line command (refusal why line) out err (inl s) w =
-      let found = says-line command line (rw w.0 at s) in
-      (found.0, rw (← found.1) w.1, w.2)
-  written-line command (refusal why line) out err (inr m) w = let e = w.0 in absurd (cc)
+  compile-outputs : (name bytes : List ℕ) (a : Answer) (c : Command) → told name ≡ Some bytes → compile name ≡ c → IsFollowed told rose c name a
+      → (text : List ℕ) × IsCompiled bytes text × (a ≡ output text)
+  compile-outputs name bytes a (check n) k is f = absurd (cc)
+  compile-outputs name bytes a (compile n) k is f =
+      let same = tells-same (told name) f.bytes bytes k f.tells in
+      (f.follows.text, subst (λ (b : List ℕ). IsCompiled b f.follows.text) same f.follows.compiled, f.follows.answer)
+  compile-outputs name bytes a (simulate r) k is f = absurd (cc)
+  compile-outputs name bytes a (run r) k is f = absurd (cc)
+  compile-outputs name bytes a (bench n) k is f = absurd (cc)
 
-  pub refuses_not_built : (command : Option Command) (s : Status) (out err : Change) → Ends told rose command s out err → RefusesNotBuilt command s out err
-  refuses_not_built command s out err ends = (
-    (λ d. (
-      (λ e. (written-line command ends.answer out err ends.said (rw e at ends.written)).0),
-      (λ to_come. to_come-not_built command ends.answer s out err d ends.said ends.written to_come),
-    )),
-    (λ e. let found = written-line command ends.answer out err ends.said (rw e at ends.written) in (found.1, found.2)),
-  )
+  pub compiles_exactly : (command : Option Command) (s : Status) (out err : Change) → Ends told rose Became command s out err → CompilesExactly told command s out err
+  compiles_exactly command s out err ends name bytes is k d =
+      let answer = answered command s out err d ends in
+      let by = by_verdict command name bytes ends.answer s (ap project_file is) k d answer in (
+        done-exactly command name bytes ends.answer s answer.status (λ c n f. let same : compile name ≡ c = cc in ap status_for (compile-outputs name bytes ends.answer c k same f).2) by,
+        (λ e.
+            let w = done ends.answer s out err e ends.written in
+            let p = done-passes command name bytes ends.answer w.text w.is by in
+            let n = p.1 in
+            let same : compile name ≡ p.0 = cc in
+            let t = compile-outputs name bytes ends.answer p.0 k same p.2 in
+            let text : w.text ≡ t.0 = let both : output w.text ≡ output t.0 = sym w.is ∙ t.2 in cc in
+            (t.0, t.1, subst (Gets out) text w.gets, w.quiet)),
+      )
 
-  -- words that are a faulty command line
-  file-usage : (next : List ℕ → Answer → Type 0) → OnlyOutputs next → (name line : List ℕ) → FileSays next name (refusal why'.Usage line) → ⊥
-  file-usage next only name line (fault r e) = cc
-  file-usage next only name line (too_long l e) = cc
-  file-usage next only name line (whole got l t j) = judged-line j.verdict j.answers
-    where
-      judged-line : (v : Verdict) → Answers (next got) v (refusal why'.Usage line) → ⊥
-      judged-line verdict.Accepted n = only got _ line n
-      judged-line (verdict.Broken b) e = cc
+  -- ---- faults of the outside, and want of memory
 
-  says-usage : (command : Option Command) (line : List ℕ) → Says told rose command (refusal why'.Usage line) → (command ≡ None) × (line ≡ usage_line)
-  says-usage (Some (check name)) line s = absurd (file-usage _ accepting name line s)
-  says-usage (Some (compile name)) line s = absurd (file-usage IsText texts name line s)
-  says-usage (Some (simulate r)) line e = absurd (cc)
-  says-usage (Some (run r)) line e = absurd (cc)
-  says-usage (Some (bench n)) line e = absurd (cc)
-  says-usage None line e = (refl, cc)
+  -- a read fault of a run
+  run-read : (r : Run) (command : Option Command) (c : Command) → command ≡ Some c → c ≡ simulate r → (name : List ℕ) → project_file command ≡ Some name
+      → (a : Answer) (f : IsFollowed told rose c name a)
+      → (e : RunError) → IsSimulated told rose r f.bytes (Err e) → (TellsProject told command → Simulates told rose r (Err e))
+  run-read r command c n is name p a f e i k =
+      let held = k name p in
+      let asks : command ≡ Some (simulate r) = n ∙ ap Some is in
+      let file : name ≡ r.file = let q : Some name ≡ Some r.file = sym p ∙ ap project_file asks in cc in
+      record { bytes = f.bytes; tells = ap told (sym file) ∙ held.1 ∙ ap Some (sym (tells-same (told name) f.bytes held.0 held.1 f.tells)); short = f.short; simulated = i }
 
-  written-usage : (command : Option Command) (a : Answer) (out err : Change) → MaySay told rose command a → Written a status.Usage out err
-      → (command ≡ None) × Gets err usage_line × Unchanged out
-  written-usage command (output bytes) out err s w = absurd w
-  written-usage command (refusal why line) out err (inl s) w =
-      let found = says-usage command line (rw w.0 at s) in
-      (found.0, rw (← found.1) w.1, w.2)
-  written-usage command (refusal why line) out err (inr m) w = let e = w.0 in absurd (cc)
+  record IsReadLine (command : Option Command) (line : List ℕ) : Type 0 where
+    pub name : List ℕ
+    pub reached : IsReached told rose command name
+    pub rises : rose name
+    pub line_is : line ≡ read_line name
 
-  none-usage : (a : Answer) (s : Status) (out err : Change) → IsDefined s → MaySay told rose None a → Written a s out err → s ≡ status.Usage
-  none-usage a s out err d (inl e) w = usage-is usage_line s out err d (rw e at w)
-  none-usage a s out err d (inr m) w = absurd (memory-undefined s out err d (rw m at w))
+  retained-read : (command : Option Command) (r : Run) (line : List ℕ) (leaves : List Leaf) (o : Option (List ℕ)) → r.retain ≡ o → line ≡ read_line (unwrap_or o [])
+      → WhyNotBegun told rose leaves o error.RetainedRead → command ≡ Some (simulate r) → (TellsProject told command → Simulates told rose r (Err error.RetainedRead)) → IsReadLine command line
+  retained-read command r line leaves None at is h asks comes = absurd (cc)
+  retained-read command r line leaves (Some name) at is h asks comes = record { name = name; reached = later r asks error.RetainedRead at comes; rises = h; line_is = is }
 
-  pub refuses_usage : (command : Option Command) (s : Status) (out err : Change) → Ends told rose command s out err → RefusesUsage command s out err
-  refuses_usage command s out err ends = (
-    (λ d. (
-      (λ e. (written-usage command ends.answer out err ends.said (rw e at ends.written)).0),
-      (λ e. none-usage ends.answer s out err d (rw e at ends.said) ends.written),
-    )),
-    (λ e. let found = written-usage command ends.answer out err ends.said (rw e at ends.written) in (found.1, found.2)),
-  )
+  run-line : (command : Option Command) (r : Run) (bytes line : List ℕ) (e : RunError) → refused_as e ≡ why'.ReadFault → line ≡ error_line r e → IsSimulated told rose r bytes (Err e)
+      → command ≡ Some (simulate r) → (TellsProject told command → Simulates told rose r (Err e)) → IsReadLine command line
+  run-line command r bytes line (error.NoProgram n) w is i asks comes = absurd (cc)
+  run-line command r bytes line error.RetainedRead w is i asks comes = retained-read command r line i.comes.0.laid.leaves r.retain refl is i.comes.1 asks comes
+  run-line command r bytes line (error.Line n) w is i asks comes = absurd (cc)
+  run-line command r bytes line error.EventsRead w is i asks comes = record { name = r.events; reached = later r asks error.EventsRead refl comes; rises = i.comes.1; line_is = is }
+  run-line command r bytes line (error.Row n) w is i asks comes = absurd (cc)
+  run-line command r bytes line error.NoMemory w is i asks comes = absurd (cc)
 
-  -- the line of a fault of a read
-  file-read : (next : List ℕ → Answer → Type 0) → OnlyOutputs next → (name line : List ℕ) → FileSays next name (refusal why'.ReadFault line) → rose name × (line ≡ read_line name)
-  file-read next only name line (fault r e) = (r, cc)
-  file-read next only name line (too_long l e) = absurd (cc)
-  file-read next only name line (whole got l t j) = absurd (judged-line j.verdict j.answers)
-    where
-      judged-line : (v : Verdict) → Answers (next got) v (refusal why'.ReadFault line) → ⊥
-      judged-line verdict.Accepted n = only got _ line n
-      judged-line (verdict.Broken b) e = cc
+  read-found : (command : Option Command) (a : Answer) (line : List ℕ) → a ≡ refusal why'.ReadFault line → Found told rose command a → IsReadLine command line
+  read-found command a line is (faulty n e) = absurd (cc)
+  read-found command a line is (unbuilt t e) = absurd (cc)
+  read-found command a line is (unread name p r e) = record { name = name; reached = first p; rises = r; line_is = cc }
+  read-found command a line is (breaks b name p v e) = absurd (cc)
+  read-found command a line is (accepts c n name p f) = elim (kind told rose c f.bytes a f.follows) [
+    | gives text e ↦ absurd (cc)
+    | refuses r s x i e ↦
+        let same : refused_as x ≡ why'.ReadFault = cc in
+        let text : line ≡ error_line r x = cc in
+        run-line command r f.bytes line x same text i (n ∙ ap Some s) (run-read r command c n s name p a f x i)
+  ]
 
-  says-read : (command : Option Command) (line : List ℕ) → Says told rose command (refusal why'.ReadFault line)
-      → (name : List ℕ) × (file_of command ≡ Some name) × rose name × (line ≡ read_line name)
-  says-read (Some (check name)) line s = let r = file-read _ accepting name line s in (name, refl, r.0, r.1)
-  says-read (Some (compile name)) line s = let r = file-read IsText texts name line s in (name, refl, r.0, r.1)
-  says-read (Some (simulate r)) line e = absurd (cc)
-  says-read (Some (run r)) line e = absurd (cc)
-  says-read (Some (bench n)) line e = absurd (cc)
-  says-read None line e = absurd (cc)
-
-  written-read : (command : Option Command) (a : Answer) (out err : Change) → MaySay told rose command a → Written a status.ReadFault out err
-      → (name : List ℕ) × (file_of command ≡ Some name) × rose name × Gets err (read_line name) × Unchanged out
-  written-read command (output bytes) out err s w = absurd w
-  written-read command (refusal why line) out err (inl s) w =
-      let found = says-read command line (rw w.0 at s) in
-      (found.0, found.1, found.2, rw (← found.3) w.1, w.2)
-  written-read command (refusal why line) out err (inr m) w = let e = w.0 in absurd (cc)
-
-  pub blames_reads : (command : Option Command) (s : Status) (out err : Change) → Ends told rose command s out err → BlamesReads rose command s out err
-  blames_reads command s out err ends e = written-read command ends.answer out err ends.said (rw e at ends.written)
+  pub blames_reads : (command : Option Command) (s : Status) (out err : Change) → Ends told rose Became command s out err → BlamesReads told rose command s out err
+  blames_reads command s out err ends e =
+      let w = refused why'.ReadFault ends.answer s out err e ends.written in
+      let l = read-found command ends.answer w.line w.is (found-refusal why'.ReadFault command ends.answer w.line (λ x. cc) w.is ends.said) in
+      (l.name, l.reached, l.rises, subst (Gets err) l.line_is w.gets, w.quiet)
 
   -- the answer behind a fault of a write
-  written-fault : (a : Answer) (out err : Change) → Written a status.WriteFault out err
+  written-fault : (a : Answer) (s : Status) (out err : Change) → s ≡ status.WriteFault → Written a s out err
       → ((bytes : List ℕ) × (a ≡ output bytes) × GetsFront out bytes × (Gets err write_line ⊎ GetsFront err write_line))
       ⊎ ((line : List ℕ) × IsRefusal a line × GetsFront err line × Unchanged out)
-  written-fault (output bytes) out err w = inl (bytes, refl, w.0, w.1)
-  written-fault (refusal why line) out err w = inr (line, refl, w.0, w.1)
+  written-fault (output bytes) s out err e (inl w) = let f = w.0 in absurd (cc)
+  written-fault (output bytes) s out err e (inr w) = inl (bytes, refl, w.1, w.2)
+  written-fault (refusal why line) s out err e (inl w) = absurd (no_reason why status.WriteFault (sym w.0 ∙ e) refl)
+  written-fault (refusal why line) s out err e (inr w) = inr (line, refl, w.1, w.2)
 
-  pub blames_writes : (command : Option Command) (s : Status) (out err : Change) → Ends told rose command s out err → BlamesWrites told rose command s out err
-  blames_writes command s out err ends e = (ends.answer, ends.said, written-fault ends.answer out err (rw e at ends.written))
+  pub blames_writes : (command : Option Command) (s : Status) (out err : Change) → Ends told rose Became command s out err → BlamesWrites told rose Became command s out err
+  blames_writes command s out err ends e = (ends.answer, ends.said, ends.heard, written-fault ends.answer s out err e ends.written)
 
   -- want of memory is told by its own line
-  file-memory : (next : List ℕ → Answer → Type 0) → OnlyOutputs next → (name line : List ℕ) → FileSays next name (refusal why'.NoMemory line) → ⊥
-  file-memory next only name line (fault r e) = cc
-  file-memory next only name line (too_long l e) = cc
-  file-memory next only name line (whole got l t j) = judged-line j.verdict j.answers
-    where
-      judged-line : (v : Verdict) → Answers (next got) v (refusal why'.NoMemory line) → ⊥
-      judged-line verdict.Accepted n = only got _ line n
-      judged-line (verdict.Broken b) e = cc
-
-  says-memory : (command : Option Command) (line : List ℕ) → Says told rose command (refusal why'.NoMemory line) → ⊥
-  says-memory (Some (check name)) line s = file-memory _ accepting name line s
-  says-memory (Some (compile name)) line s = file-memory IsText texts name line s
-  says-memory (Some (simulate r)) line e = cc
-  says-memory (Some (run r)) line e = cc
-  says-memory (Some (bench n)) line e = cc
-  says-memory None line e = cc
-
-  written-memory : (command : Option Command) (a : Answer) (out err : Change) → MaySay told rose command a → Written a status.NoMemory out err → Gets err memory_line × Unchanged out
-  written-memory command (output bytes) out err s w = absurd w
-  written-memory command (refusal why line) out err (inr m) w = let e : line ≡ memory_line = cc in (rw (← e) w.1, w.2)
-  written-memory command (refusal why line) out err (inl s) w = absurd (says-memory command line (rw w.0 at s))
-
-  pub tells_memory : (command : Option Command) (s : Status) (out err : Change) → Ends told rose command s out err → TellsMemory s out err
-  tells_memory command s out err ends e = written-memory command ends.answer out err ends.said (rw e at ends.written)
-
-  -- an output comes whole where its sink has no fault
-  output-whole : (bytes : List ℕ) (s : Status) (out err : Change) → (Rose out.had out.has → ⊥) → Written (output bytes) s out err → s ≡ status.Done
-  output-whole bytes status.Done out err calm w = refl
-  output-whole bytes status.WriteFault out err calm w = absurd (calm w.0.0)
-  output-whole bytes status.Broken out err calm w = absurd w
-  output-whole bytes status.Usage out err calm w = absurd w
-  output-whole bytes status.NotBuilt out err calm w = absurd w
-  output-whole bytes status.ReadFault out err calm w = absurd w
-  output-whole bytes status.NoMemory out err calm w = absurd w
-
-  memory-whole : (s : Status) (out err : Change) → (Rose err.had err.has → ⊥) → Written memory_answer s out err → s ≡ status.NoMemory
-  memory-whole status.NoMemory out err calm w = refl
-  memory-whole status.WriteFault out err calm w = absurd (calm w.0.0)
-  memory-whole status.Done out err calm w = absurd w
-  memory-whole status.Broken out err calm w = let e = w.0 in absurd (cc)
-  memory-whole status.Usage out err calm w = let e = w.0 in absurd (cc)
-  memory-whole status.NotBuilt out err calm w = let e = w.0 in absurd (cc)
-  memory-whole status.ReadFault out err calm w = let e = w.0 in absurd (cc)
-
-  file-complete : (next : List ℕ → Answer → Type 0) → OnlyOutputs next → (name bytes : List ℕ) (a : Answer) (s : Status) (out err : Change) → told name ≡ Some bytes
-      → FileVerdict bytes verdict.Accepted → (rose name → ⊥) → (Rose out.had out.has → ⊥) → FileSays next name a → Written a s out err → s ≡ status.Done
-  file-complete next only name bytes a s out err k h sound calm says w = elim (file-answer next name bytes a k says) [
-    | inl f ↦ absurd (sound f.0)
-    | inr answer ↦
-        let accepted = one_verdict bytes answer.verdict verdict.Accepted answer.judged h in
-        done a (subst (λ (v : Verdict). Answers (next bytes) v a) accepted answer.answers) w
+  memory-found : (command : Option Command) (a : Answer) (line : List ℕ) → a ≡ refusal why'.NoMemory line → Found told rose command a → ⊥
+  memory-found command a line is (faulty n e) = cc
+  memory-found command a line is (unbuilt t e) = cc
+  memory-found command a line is (unread name p r e) = cc
+  memory-found command a line is (breaks b name p v e) = cc
+  memory-found command a line is (accepts c n name p f) = elim (kind told rose c f.bytes a f.follows) [
+    | gives text e ↦ cc
+    | refuses r s x i e ↦ let same : refused_as x ≡ why'.NoMemory = cc in i.there (ap Err (only_memory x same))
   ]
-    where
-      done : (x : Answer) → next bytes x → Written x s out err → s ≡ status.Done
-      done (output text) n written = output-whole text s out err calm written
-      done (refusal why line) n written = absurd (only bytes why line n)
 
-  complete-says : (command : Option Command) (name bytes : List ℕ) (a : Answer) (s : Status) (out err : Change) → file_of command ≡ Some name → told name ≡ Some bytes
-      → FileVerdict bytes verdict.Accepted → (rose name → ⊥) → (Rose out.had out.has → ⊥) → Says told rose command a → Written a s out err → s ≡ status.Done
-  complete-says (Some (check n)) name bytes a s out err is k h sound calm says w =
-      let same : n ≡ name = cc in file-complete _ accepting name bytes a s out err k h sound calm (rw same at says) w
-  complete-says (Some (compile n)) name bytes a s out err is k h sound calm says w =
-      let same : n ≡ name = cc in file-complete IsText texts name bytes a s out err k h sound calm (rw same at says) w
-  complete-says (Some (simulate r)) name bytes a s out err is k h sound calm says w = absurd (cc)
-  complete-says (Some (run r)) name bytes a s out err is k h sound calm says w = absurd (cc)
-  complete-says (Some (bench n)) name bytes a s out err is k h sound calm says w = absurd (cc)
-  complete-says None name bytes a s out err is k h sound calm says w = absurd (cc)
+  memory-line : (command : Option Command) (a : Answer) (line : List ℕ) → a ≡ refusal why'.NoMemory line → MaySay told rose command a → line ≡ memory_line
+  memory-line command a line is (inl says) = absurd (memory-found command a line is (found told rose command a says))
+  memory-line command a line is (inr m) = let both : refusal why'.NoMemory line ≡ memory_answer = sym is ∙ m in cc
 
-  pub is_complete : (command : Option Command) (s : Status) (out err : Change) → Ends told rose command s out err → IsComplete told rose command s out err
-  is_complete command s out err ends name bytes is k h sound no_out no_err = elim ends.said [
-    | inl says ↦ inl (complete-says command name bytes ends.answer s out err is k h sound no_out says ends.written)
-    | inr m ↦ inr (memory-whole s out err no_err (rw m at ends.written))
-  ]
+  pub tells_memory : (command : Option Command) (s : Status) (out err : Change) → Ends told rose Became command s out err → TellsMemory s out err
+  tells_memory command s out err ends e =
+      let w = refused why'.NoMemory ends.answer s out err e ends.written in
+      (subst (Gets err) (memory-line command ends.answer w.line w.is ends.said) w.gets, w.quiet)
+
+  -- ---- what a watch hears
+
+  other-hears : (command : Option Command) (a : Answer) → ((r : Run) → command ≡ Some (simulate r) → ⊥) → Hears told Became command a → Became []
+  other-hears None a ne h = h
+  other-hears (Some (check n)) a ne h = h
+  other-hears (Some (compile n)) a ne h = h
+  other-hears (Some (simulate r)) a ne h = absurd (ne r refl)
+  other-hears (Some (run r)) a ne h = h
+  other-hears (Some (bench n)) a ne h = h
+
+  refused-run-hears : (r : Run) (why : Refused) → why ≢ why'.NoMemory → HearsRefused told Became r why → Became []
+  refused-run-hears r why'.Broken ne h = h
+  refused-run-hears r why'.Usage ne h = h
+  refused-run-hears r why'.ReadFault ne h = h
+  refused-run-hears r why'.NoMemory ne h = absurd (ne refl)
+  refused-run-hears r why'.EventsBroken ne h = h
+  refused-run-hears r why'.NoProgram ne h = h
+  refused-run-hears r why'.NotBuilt ne h = h
+
+  refused-hears : (command : Option Command) (why : Refused) (line : List ℕ) → why ≢ why'.NoMemory → Hears told Became command (refusal why line) → Became []
+  refused-hears None why line ne h = h
+  refused-hears (Some (check n)) why line ne h = h
+  refused-hears (Some (compile n)) why line ne h = h
+  refused-hears (Some (simulate r)) why line ne h = refused-run-hears r why ne h
+  refused-hears (Some (run r)) why line ne h = h
+  refused-hears (Some (bench n)) why line ne h = h
+
+  -- a refusal for another cause than memory, whatever the status
+  quiet-status : (command : Option Command) (s : Status) (out err : Change) → Ends told rose Became command s out err → (why : Refused) → why ≢ why'.NoMemory → s ≡ status_of why → Became []
+  quiet-status command s out err ends why ne e =
+      let w = refused why ends.answer s out err e ends.written in
+      refused-hears command why w.line ne (subst (Hears told Became command) w.is ends.heard)
+
+  refusing-hears : (command : Option Command) (s : Status) (out err : Change) → Ends told rose Became command s out err → IsRefusing s → Became []
+  refusing-hears command status.Done out err ends h = absurd h
+  refusing-hears command status.WriteFault out err ends h = absurd h
+  refusing-hears command status.NoMemory out err ends h = absurd h
+  refusing-hears command status.Broken out err ends h = quiet-status command status.Broken out err ends why'.Broken (λ x. cc) refl
+  refusing-hears command status.Usage out err ends h = quiet-status command status.Usage out err ends why'.Usage (λ x. cc) refl
+  refusing-hears command status.ReadFault out err ends h = quiet-status command status.ReadFault out err ends why'.ReadFault (λ x. cc) refl
+  refusing-hears command status.EventsBroken out err ends h = quiet-status command status.EventsBroken out err ends why'.EventsBroken (λ x. cc) refl
+  refusing-hears command status.NoProgram out err ends h = quiet-status command status.NoProgram out err ends why'.NoProgram (λ x. cc) refl
+  refusing-hears command status.NotBuilt out err ends h = quiet-status command status.NotBuilt out err ends why'.NotBuilt (λ x. cc) refl
+
+  run-hears : (r : Run) (command : Option Command) (a : Answer) → command ≡ Some (simulate r) → Hears told Became command a → HearsRun told Became r a
+  run-hears r command a is h = subst (λ (c : Option Command). Hears told Became c a) is h
+
+  pub watches_exactly : (command : Option Command) (s : Status) (out err : Change) → Ends told rose Became command s out err → WatchesExactly told Became command s
+  watches_exactly command s out err ends = record {
+    done = λ r is e. let w = done ends.answer s out err e ends.written in (w.text, run-hears r command (output w.text) is (subst (Hears told Became command) w.is ends.heard));
+    other = λ ne. other-hears command ends.answer ne ends.heard;
+    refused = λ h. refusing-hears command s out err ends h;
+    wanted = λ r is e.
+        let w = refused why'.NoMemory ends.answer s out err e ends.written in
+        run-hears r command (refusal why'.NoMemory w.line) is (subst (Hears told Became command) w.is ends.heard);
+  }

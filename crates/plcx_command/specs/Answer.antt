@@ -1,5 +1,5 @@
 -- What is to be written: a whole output, or the line of a refusal.
-use Rattle.std.specs.Prelude.{ℕ, List, [], ◌∷◌, ◌++◌, codes}
+use Rattle.std.specs.Prelude.{ℕ, List, [], ◌∷◌, ◌++◌, Option, Some, None, codes}
 use Rattle.std.specs.Fmt.{decimal}
 use Rattle.plcx_model.specs.declared.broken.Broken as model
 use Rattle.plcx_model.specs.declared.broken.Place.{Place}
@@ -58,3 +58,15 @@ broken_line b = line (codes "rule " ++ (decimal b.rule.0 ++ (codes " at " ++ pla
 
 abbrev pub broken_answer : model.Broken → Answer
 broken_answer b = refusal Broken (broken_line b)
+
+-- where a program isn't there: its name, or how many there are where none is named
+abbrev pub program_line : Option (List ℕ) → ℕ → List ℕ
+program_line (Some name) programs = line (codes "no program " ++ name)
+program_line None programs = line (decimal programs ++ codes " programs, name one")
+
+-- where retained lines, or the rows of events, are wrong
+abbrev pub retained_line : ℕ → List ℕ
+retained_line n = line (codes "retained line " ++ decimal n)
+
+abbrev pub row_line : ℕ → List ℕ
+row_line n = line (codes "events row " ++ decimal n)

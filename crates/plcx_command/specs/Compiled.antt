@@ -1,4 +1,4 @@
--- The text of a file.
+-- The diagrams of a file, and its text.
 use Rattle.std.specs.Prelude.{◌≡◌, ◌≤◌, ℕ, List}
 use Rattle.plcx_meaning.specs.Diagram as diagram
 use Rattle.plcx_meaning.specs.Templates.{unit_of}
@@ -17,6 +17,16 @@ use Rattle.plcx_st.specs.Meant.{meant}
 use Rattle.plcx_st.specs.Print.{printed}
 use Rattle.plcx_command.specs.Verdict.{Keeps}
 
+-- The bytes break no rule, and these are the diagrams of their project, which its links, types and plan give.
+pub record HasDiagrams (bytes : List ℕ) (diagrams : diagram.Project) : Type 0 where
+  pub project : Project
+  pub keeps : Keeps bytes project
+  pub links : Links
+  pub types : Types
+  pub plan : Plan
+  pub checked : IsChecked project links types plan
+  pub are : diagrams ≡ diagrams_of project links types plan
+
 -- Read back from its bytes, the text is exactly one unit, which is ready and does what the diagrams do.
 pub record IsReadBack (text : List ℕ) (diagrams : diagram.Project) : Type 0 where
   pub unit : Unit
@@ -32,12 +42,8 @@ pub record IsTextOf (diagrams : diagram.Project) (text : List ℕ) : Type 0 wher
   pub text_is : text ≡ printed (unit_of diagrams)
   pub read_back : IsReadBack text diagrams
 
--- The bytes break no rule, and this is the text of their project's diagrams, which its links, types and plan give.
+-- The bytes break no rule, and this is the text of their diagrams.
 pub record IsCompiled (bytes text : List ℕ) : Type 0 where
-  pub project : Project
-  pub keeps : Keeps bytes project
-  pub links : Links
-  pub types : Types
-  pub plan : Plan
-  pub checked : IsChecked project links types plan
-  pub text_of : IsTextOf (diagrams_of project links types plan) text
+  pub diagrams : diagram.Project
+  pub has : HasDiagrams bytes diagrams
+  pub text_of : IsTextOf diagrams text

@@ -3,13 +3,15 @@ use Rattle.std.specs.Prelude.{◌≡◌, ℕ, List, ◌⊎◌}
 use Rattle.std.specs.declared.option.Option.{Option}
 use Rattle.std.specs.Io.KnownBytes.{Appends, Keeps}
 use Rattle.plcx_io.specs.Counts.{Rose}
+use Rattle.plcx_meaning.specs.Evaluate.{Heard}
 use Rattle.plcx_io.specs.Told.{AppendsFront}
 use Rattle.plcx_command.specs.Answer.{Answer, output, refusal, memory_answer, write_line}
 use Rattle.plcx_words.specs.Command.{Command}
+use Rattle.plcx_command.specs.Hears.{Hears}
 use Rattle.plcx_command.specs.Says.{Says}
-use Rattle.plcx_command.specs.declared.status.Refused.TheVariants as refused
+use Rattle.plcx_command.specs.Refused.{status_of}
 use Rattle.plcx_command.specs.declared.status.Status.{Status}
-use Rattle.plcx_command.specs.declared.status.Status.TheVariants.{Done, Broken, Usage, ReadFault, WriteFault, NoMemory, NotBuilt}
+use Rattle.plcx_command.specs.declared.status.Status.TheVariants.{Done, WriteFault}
 
 -- a sink before and after a call: its bytes and its count of faults
 pub record Change : Type 0 where
@@ -32,28 +34,20 @@ GetsFront c bytes = Rose c.had c.has × AppendsFront c.was c.now bytes
 abbrev pub Unchanged : Change → Type 0
 Unchanged c = Keeps c.was c.now
 
--- An answer is written: the output to the one sink, or the line to the other; or a write failed.
+-- An answer is written: the output to the one sink, or the line to the other, and the status is its own; or a write failed.
 abbrev pub Written : Answer → Status → Change → Change → Type 0
-Written (output bytes) Done out err = Gets out bytes × Unchanged err
-Written (output bytes) WriteFault out err = GetsFront out bytes × (Gets err write_line ⊎ GetsFront err write_line)
-Written (output bytes) Broken out err = ⊥
-Written (output bytes) Usage out err = ⊥
-Written (output bytes) ReadFault out err = ⊥
-Written (output bytes) NoMemory out err = ⊥
-Written (output bytes) NotBuilt out err = ⊥
-Written (refusal why line) Done out err = ⊥
-Written (refusal why line) WriteFault out err = GetsFront err line × Unchanged out
-Written (refusal why line) Broken out err = (why ≡ refused.Broken) × Gets err line × Unchanged out
-Written (refusal why line) Usage out err = (why ≡ refused.Usage) × Gets err line × Unchanged out
-Written (refusal why line) ReadFault out err = (why ≡ refused.ReadFault) × Gets err line × Unchanged out
-Written (refusal why line) NoMemory out err = (why ≡ refused.NoMemory) × Gets err line × Unchanged out
-Written (refusal why line) NotBuilt out err = (why ≡ refused.NotBuilt) × Gets err line × Unchanged out
+Written (output bytes) s out err =
+    ((s ≡ Done) × Gets out bytes × Unchanged err) ⊎ ((s ≡ WriteFault) × GetsFront out bytes × (Gets err write_line ⊎ GetsFront err write_line))
+Written (refusal why line) s out err =
+    ((s ≡ status_of why) × Gets err line × Unchanged out) ⊎ ((s ≡ WriteFault) × GetsFront err line × Unchanged out)
 
 -- the command's answer, or that memory was refused
 abbrev pub MaySay : (List ℕ → Option (List ℕ)) → (List ℕ → Type 0) → Option Command → Answer → Type 0
 MaySay told rose command a = Says told rose command a ⊎ (a ≡ memory_answer)
 
-pub record Ends (told : List ℕ → Option (List ℕ)) (rose : List ℕ → Type 0) (command : Option Command) (status : Status) (out err : Change) : Type 0 where
+-- There is an answer that the command may give; it was written so, and a watch has become what it is by what is heard of that.
+pub record Ends (told : List ℕ → Option (List ℕ)) (rose : List ℕ → Type 0) (Became : List Heard → Type 0) (command : Option Command) (status : Status) (out err : Change) : Type 0 where
   pub answer : Answer
   pub said : MaySay told rose command answer
   pub written : Written answer status out err
+  pub heard : Hears told Became command answer

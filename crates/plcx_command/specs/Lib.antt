@@ -2,8 +2,11 @@ pub mod Answer
 pub mod Compiled
 pub mod Ends
 pub mod Headline
+pub mod Hears
 pub mod JudgementOf
 pub mod Refused
 pub mod ReplyOf
 pub mod Says
+pub mod Taken
+pub mod Simulated
 pub mod Verdict

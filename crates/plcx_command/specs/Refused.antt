@@ -12,6 +12,8 @@ number_of status.Usage = 2
 number_of status.ReadFault = 3
 number_of status.WriteFault = 4
 number_of status.NoMemory = 5
+number_of status.EventsBroken = 7
+number_of status.NoProgram = 8
 number_of status.NotBuilt = 9
 
 abbrev pub status_of : Refused → Status
@@ -19,4 +21,6 @@ status_of refused.Broken = status.Broken
 status_of refused.Usage = status.Usage
 status_of refused.ReadFault = status.ReadFault
 status_of refused.NoMemory = status.NoMemory
+status_of refused.EventsBroken = status.EventsBroken
+status_of refused.NoProgram = status.NoProgram
 status_of refused.NotBuilt = status.NotBuilt

@@ -1,10 +1,11 @@
--- What each command answers, by what the desk tells of its file.
+-- What each command answers, by what the desk tells of its files.
 use Rattle.std.specs.Prelude.{◌≡◌, ◌≤◌, ◌<◌, ℕ, List, Option, Some, None, length, IfSome}
 use Rattle.plcx_io.specs.Told.{Tells}
 use Rattle.plcx_words.specs.Command.{Command, check, compile, simulate, run, bench}
 use Rattle.plcx_types.specs.Limits.{max_file_bytes}
 use Rattle.plcx_command.specs.Answer.{Answer, output, ok_answer, usage_answer, not_built_answer, read_answer, broken_answer}
 use Rattle.plcx_command.specs.Compiled.{IsCompiled}
+use Rattle.plcx_command.specs.Simulated.{AnswersRun}
 use Rattle.plcx_command.specs.Verdict.{Verdict, IsVerdict, Accepted, Broken, at_byte}
 
 -- What the read of a file comes to: a fault of its name, a file that is too long, or its bytes and what follows on them.
@@ -34,25 +35,30 @@ pub record IsText (bytes : List ℕ) (a : Answer) : Type 0 where
 abbrev pub long_answer : Answer
 long_answer = broken_answer (at_byte 7 max_file_bytes)
 
--- what is answered to a file that is accepted, and only judged
-abbrev pub IsAccepting : Answer → Type 0
-IsAccepting a = a ≡ ok_answer
+-- the project file of a command, which is read first and judged; none of an action that is not built
+abbrev pub file_of : Command → Option (List ℕ)
+file_of (check name) = Some name
+file_of (compile name) = Some name
+file_of (simulate r) = Some r.file
+file_of (run r) = None
+file_of (bench n) = None
 
--- the answer to a file that is only judged
-abbrev pub checked : List ℕ → Answer → Type 0
-checked bytes a = Judged bytes IsAccepting a
+-- what an action answers to bytes that break no rule
+abbrev pub Follows : (List ℕ → Option (List ℕ)) → (List ℕ → Type 0) → Command → List ℕ → Answer → Type 0
+Follows told rose (check name) bytes a = a ≡ ok_answer
+Follows told rose (compile name) bytes a = IsText bytes a
+Follows told rose (simulate r) bytes a = AnswersRun told rose r bytes a
+Follows told rose (run r) bytes a = ⊥
+Follows told rose (bench n) bytes a = ⊥
 
--- the answer to a file that is compiled
-abbrev pub compiled : List ℕ → Answer → Type 0
-compiled bytes a = Judged bytes (IsText bytes) a
+-- what is answered over this project file, or without one
+abbrev pub SaysOver : (List ℕ → Option (List ℕ)) → (List ℕ → Type 0) → Option (List ℕ) → Command → Answer → Type 0
+SaysOver told rose (Some name) command a = AfterRead (told name) (rose name) name long_answer (λ bytes. Judged bytes (Follows told rose command bytes)) a
+SaysOver told rose None command a = a ≡ not_built_answer
 
 -- what a command answers, where the desk tells these files and these names' counts rose
 abbrev pub SaysTo : (List ℕ → Option (List ℕ)) → (List ℕ → Type 0) → Command → Answer → Type 0
-SaysTo told rose (check name) a = AfterRead (told name) (rose name) name long_answer checked a
-SaysTo told rose (compile name) a = AfterRead (told name) (rose name) name long_answer compiled a
-SaysTo told rose (simulate r) a = a ≡ not_built_answer
-SaysTo told rose (run r) a = a ≡ not_built_answer
-SaysTo told rose (bench n) a = a ≡ not_built_answer
+SaysTo told rose command a = SaysOver told rose (file_of command) command a
 
 -- words that ask for nothing are a faulty command line
 abbrev pub Says : (List ℕ → Option (List ℕ)) → (List ℕ → Type 0) → Option Command → Answer → Type 0

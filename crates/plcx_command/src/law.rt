@@ -1,6 +1,7 @@
 //! Laws of the definitions that the top call's clauses cite.
 ghost use Rattle.std.specs.Prelude.{◌≡◌, ℕ, List};
-ghost use Rattle.plcx_command.specs.Compiled.{IsCompiled};
+ghost use Rattle.plcx_meaning.specs.Diagram.{Project};
+ghost use Rattle.plcx_command.specs.Compiled.{HasDiagrams, IsCompiled};
 ghost use Rattle.plcx_command.specs.Verdict.{Verdict, FileVerdict};
 
 use plcx_fits::one_diagram;
@@ -19,10 +20,17 @@ pub fn one_verdict()
     one_check_verdict();
 }
 
+/// A file has one list of diagrams at most.
+pub fn one_list_of_diagrams()
+    ensures { (bytes : List ℕ) (a b : Project) → HasDiagrams bytes a → HasDiagrams bytes b → a ≡ b }
+{
+    one_tree();
+    one_diagram();
+}
+
 /// A file has one text at most.
 pub fn one_text()
     ensures { (bytes a b : List ℕ) → IsCompiled bytes a → IsCompiled bytes b → a ≡ b }
 {
-    one_tree();
-    one_diagram();
+    one_list_of_diagrams();
 }

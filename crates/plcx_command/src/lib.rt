@@ -9,11 +9,12 @@ mod finishing;
 mod judging;
 mod law;
 mod line;
+mod replies;
 mod reply;
 mod status;
 mod top;
 
-pub use law::{one_text, one_verdict};
+pub use law::{one_list_of_diagrams, one_text, one_verdict};
 pub use plcx_words::Words;
 pub use status::Status;
 pub use top::plcx;

@@ -1,6 +1,7 @@
-//! The line that tells a broken rule.
+//! The lines that tell a broken rule, a program that isn't there, and files that are refused.
 ghost use Rattle.std.specs.Prelude.{◌≡◌, ◌++◌, codes, string_bytes, IfOk};
-ghost use Rattle.plcx_command.specs.Answer.{broken_line, place_words};
+ghost use Rattle.std.specs.Option.{option_map};
+ghost use Rattle.plcx_command.specs.Answer.{line, broken_line, place_words, program_line, retained_line, row_line};
 
 use plcx_model::{Broken, Place};
 use plcx_types::NoMemory;
@@ -44,4 +45,44 @@ pub fn broken_line(alloc: Global, broken: &Broken) -> Result<Vec<u8>, NoMemory>
     line.extend_from_slice(&place)?;
     line.push(b'\n')?;
     Ok(line)
+}
+
+fn named_line(alloc: Global, name: &str) -> Result<String, NoMemory>
+    ensures { IfOk result (λ text. string_bytes text ≡ line (codes "no program " ++ name.now)) }
+{
+    Ok(format!(in alloc; "plcx: no program {name}\n")?)
+}
+
+fn counted_line(alloc: Global, programs: u64) -> Result<String, NoMemory>
+    ensures { IfOk result (λ text. string_bytes text ≡ line (decimal programs ++ codes " programs, name one")) }
+{
+    Ok(format!(in alloc; "plcx: {programs} programs, name one\n")?)
+}
+
+/// The line where a program isn't there: its name, or how many there are where none is named.
+pub fn program_line(
+    alloc: Global,
+    program: Option<&str>,
+    programs: u64,
+) -> Result<Vec<u8>, NoMemory>
+    ensures { IfOk result (λ line. line.items ≡ program_line (option_map (λ s. s.now) program.entry) programs) }
+{
+    match program {
+        Some(name) => Ok(named_line(alloc, name)?.into_bytes()),
+        None => Ok(counted_line(alloc, programs)?.into_bytes()),
+    }
+}
+
+/// The line where a retained line is wrong.
+pub fn retained_line(alloc: Global, line: u64) -> Result<Vec<u8>, NoMemory>
+    ensures { IfOk result (λ text. text.items ≡ retained_line line) }
+{
+    Ok(format!(in alloc; "plcx: retained line {line}\n")?.into_bytes())
+}
+
+/// The line where a row of events is wrong.
+pub fn row_line(alloc: Global, row: u64) -> Result<Vec<u8>, NoMemory>
+    ensures { IfOk result (λ text. text.items ≡ row_line row) }
+{
+    Ok(format!(in alloc; "plcx: events row {row}\n")?.into_bytes())
 }

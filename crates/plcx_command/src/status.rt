@@ -10,6 +10,8 @@ pub enum Status {
     ReadFault,
     WriteFault,
     NoMemory,
+    EventsBroken,
+    NoProgram,
     NotBuilt,
 }
 
@@ -25,6 +27,8 @@ impl Status {
             Status::ReadFault => 3,
             Status::WriteFault => 4,
             Status::NoMemory => 5,
+            Status::EventsBroken => 7,
+            Status::NoProgram => 8,
             Status::NotBuilt => 9,
         }
     }
@@ -39,6 +43,8 @@ pub enum Refused {
     Usage,
     ReadFault,
     NoMemory,
+    EventsBroken,
+    NoProgram,
     NotBuilt,
 }
 
@@ -52,6 +58,8 @@ impl Refused {
             Refused::Usage => Status::Usage,
             Refused::ReadFault => Status::ReadFault,
             Refused::NoMemory => Status::NoMemory,
+            Refused::EventsBroken => Status::EventsBroken,
+            Refused::NoProgram => Status::NoProgram,
             Refused::NotBuilt => Status::NotBuilt,
         }
     }

@@ -1,33 +1,39 @@
 //! The top call.
 ghost use Rattle.std.specs.Prelude.{◌≡◌, None};
+ghost use Rattle.std.specs.List.{fold};
 ghost use Rattle.plcx_io.specs.Counts.{Rose};
 ghost use Rattle.plcx_words.specs.Command.{command_of};
 ghost use Rattle.plcx_command.specs.Ends.{Ends, change};
-ghost use Rattle.plcx_command.specs.Headline.{ChecksExactly, CompilesExactly, RefusesUsage, RefusesBroken, RefusesNotBuilt, BlamesReads, BlamesWrites, TellsMemory, IsComplete};
+ghost use Rattle.plcx_command.specs.Headline.{ChecksExactly, CompilesExactly, SimulatesExactly, WatchesExactly, TellsProject, TellsAll};
+ghost use Rattle.plcx_command.specs.Headline.{RefusesUsage, RefusesBroken, RefusesRun, RefusesNotBuilt, BlamesReads, BlamesWrites, TellsMemory, IsComplete};
+ghost use Rattle.plcx_command.specs.declared.status.Refused.TheVariants.{NoProgram, EventsBroken};
 
 use crate::deciding::decide;
 use crate::finishing::{put, refuse};
-use crate::law::one_verdict;
+use crate::law::{one_list_of_diagrams, one_verdict};
 use crate::reply::Reply;
 use crate::status::{Refused, Status};
 use plcx_io::{Desk, Sink};
+use plcx_simulate::one_outcome;
+use plcx_steps::Watch;
 use plcx_words::Words;
 use std::alloc::Global;
 
-fn run<D: Desk, O: Sink, E: Sink>(
+fn run<D: Desk, O: Sink, E: Sink, W: Watch>(
     alloc: Global,
     words: &Words,
     desk: &mut D,
     out: &mut O,
     err: &mut E,
+    watch: &mut W,
 ) -> Status
     ensures ends { Ends (D.file desk.old) (λ name. Rose (D.faults desk.old name) (D.faults desk.new name))
-        (command_of words.now) result
+        (λ heard. watch.new ≡ fold W.told watch.old heard) (command_of words.now) result
         (change (O.written out.old) (O.written out.new) (O.faults out.old) (O.faults out.new))
         (change (E.written err.old) (E.written err.new) (E.faults err.old) (E.faults err.new)) }
     ensures untouched { command_of words.now ≡ None → desk.new ≡ desk.old }
 {
-    match decide(alloc, words, desk) {
+    match decide(alloc, words, desk, watch) {
         Ok(Reply::Output(bytes)) => put(&bytes, out, err),
         Ok(Reply::Refusal(why, line)) => refuse(why, &line, out, err),
         Err(_) => refuse(Refused::NoMemory, b"plcx: no memory\n", out, err),
@@ -35,15 +41,16 @@ fn run<D: Desk, O: Sink, E: Sink>(
 }
 
 /// All that the program does, for the words behind its name. No output is begun before it is whole.
-pub fn plcx<D: Desk, O: Sink, E: Sink>(
+pub fn plcx<D: Desk, O: Sink, E: Sink, W: Watch>(
     alloc: Global,
     words: &Words,
     desk: &mut D,
     out: &mut O,
     err: &mut E,
+    watch: &mut W,
 ) -> Status
     ensures ends { Ends (D.file desk.old) (λ name. Rose (D.faults desk.old name) (D.faults desk.new name))
-        (command_of words.now) result
+        (λ heard. watch.new ≡ fold W.told watch.old heard) (command_of words.now) result
         (change (O.written out.old) (O.written out.new) (O.faults out.old) (O.faults out.new))
         (change (E.written err.old) (E.written err.new) (E.faults err.old) (E.faults err.new)) }
 
@@ -54,6 +61,12 @@ pub fn plcx<D: Desk, O: Sink, E: Sink>(
     ensures checks { ChecksExactly (D.file desk.old) (command_of words.now) result
         (change (O.written out.old) (O.written out.new) (O.faults out.old) (O.faults out.new))
         (change (E.written err.old) (E.written err.new) (E.faults err.old) (E.faults err.new)) }
+
+    ensures simulates { SimulatesExactly (D.file desk.old) (command_of words.now) result
+        (change (O.written out.old) (O.written out.new) (O.faults out.old) (O.faults out.new))
+        (change (E.written err.old) (E.written err.new) (E.faults err.old) (E.faults err.new)) }
+
+    ensures watches { WatchesExactly (D.file desk.old) (λ heard. watch.new ≡ fold W.told watch.old heard) (command_of words.now) result }
 
     ensures complete { IsComplete (D.file desk.old) (λ name. Rose (D.faults desk.old name) (D.faults desk.new name))
         (command_of words.now) result
@@ -70,17 +83,25 @@ pub fn plcx<D: Desk, O: Sink, E: Sink>(
         (change (O.written out.old) (O.written out.new) (O.faults out.old) (O.faults out.new))
         (change (E.written err.old) (E.written err.new) (E.faults err.old) (E.faults err.new)) }
 
+    ensures no_program { RefusesRun NoProgram (TellsProject (D.file desk.old) (command_of words.now)) (D.file desk.old) (command_of words.now) result
+        (change (O.written out.old) (O.written out.new) (O.faults out.old) (O.faults out.new))
+        (change (E.written err.old) (E.written err.new) (E.faults err.old) (E.faults err.new)) }
+
+    ensures events_broken { RefusesRun EventsBroken (TellsAll (D.file desk.old) (command_of words.now)) (D.file desk.old) (command_of words.now) result
+        (change (O.written out.old) (O.written out.new) (O.faults out.old) (O.faults out.new))
+        (change (E.written err.old) (E.written err.new) (E.faults err.old) (E.faults err.new)) }
+
     ensures not_built { RefusesNotBuilt (command_of words.now) result
         (change (O.written out.old) (O.written out.new) (O.faults out.old) (O.faults out.new))
         (change (E.written err.old) (E.written err.new) (E.faults err.old) (E.faults err.new)) }
 
-    ensures read_fault { BlamesReads (λ name. Rose (D.faults desk.old name) (D.faults desk.new name))
+    ensures read_fault { BlamesReads (D.file desk.old) (λ name. Rose (D.faults desk.old name) (D.faults desk.new name))
         (command_of words.now) result
         (change (O.written out.old) (O.written out.new) (O.faults out.old) (O.faults out.new))
         (change (E.written err.old) (E.written err.new) (E.faults err.old) (E.faults err.new)) }
 
     ensures write_fault { BlamesWrites (D.file desk.old) (λ name. Rose (D.faults desk.old name) (D.faults desk.new name))
-        (command_of words.now) result
+        (λ heard. watch.new ≡ fold W.told watch.old heard) (command_of words.now) result
         (change (O.written out.old) (O.written out.new) (O.faults out.old) (O.faults out.new))
         (change (E.written err.old) (E.written err.new) (E.faults err.old) (E.faults err.new)) }
 
@@ -89,5 +110,7 @@ pub fn plcx<D: Desk, O: Sink, E: Sink>(
         (change (E.written err.old) (E.written err.new) (E.faults err.old) (E.faults err.new)) }
 {
     one_verdict();
-    run(alloc, words, desk, out, err)
+    one_list_of_diagrams();
+    one_outcome();
+    run(alloc, words, desk, out, err, watch)
 }

@@ -43,3 +43,61 @@ pub const EMPTY_BODY: &str =
 
 /// Its text.
 pub const EMPTY_BODY_TEXT: &str = "PROGRAM Main\nEND_PROGRAM\n";
+
+/// One wire from A to B, both retained.
+pub const KEPT_WIRE: &str =
+    "<project xmlns=\"http://www.plcopen.org/xml/tc6_0201\"><types><pous><pou name=\"Main\
+    \" pouType=\"program\"><interface><localVars retain=\"true\"><variable name=\"A\"><t\
+    ype><BOOL/></type></variable><variable name=\"B\"><type><BOOL/></type></variable></l\
+    ocalVars></interface><body><FBD><inVariable localId=\"1\"><position x=\"0\" y=\"0\"/\
+    ><connectionPointOut/><expression>A</expression></inVariable><outVariable localId=\"\
+    2\"><position x=\"0\" y=\"0\"/><connectionPointIn><connection refLocalId=\"1\"/></co\
+    nnectionPointIn><expression>B</expression></outVariable></FBD></body></pou></pous></\
+    types></project>";
+
+/// Two programs of one wire each.
+pub const TWO_PROGRAMS: &str =
+    "<project xmlns=\"http://www.plcopen.org/xml/tc6_0201\"><types><pous><pou name=\"Main\
+    \" pouType=\"program\"><interface><localVars><variable name=\"A\"><type><BOOL/></typ\
+    e></variable><variable name=\"B\"><type><BOOL/></type></variable></localVars></inter\
+    face><body><FBD><inVariable localId=\"1\"><position x=\"0\" y=\"0\"/><connectionPoin\
+    tOut/><expression>A</expression></inVariable><outVariable localId=\"2\"><position x=\
+    \"0\" y=\"0\"/><connectionPointIn><connection refLocalId=\"1\"/></connectionPointIn>\
+    <expression>B</expression></outVariable></FBD></body></pou><pou name=\"Other\" pouTy\
+    pe=\"program\"><interface><localVars><variable name=\"A\"><type><BOOL/></type></vari\
+    able><variable name=\"B\"><type><BOOL/></type></variable></localVars></interface><bo\
+    dy><FBD><inVariable localId=\"1\"><position x=\"0\" y=\"0\"/><connectionPointOut/><e\
+    xpression>A</expression></inVariable><outVariable localId=\"2\"><position x=\"0\" y=\
+    \"0\"/><connectionPointIn><connection refLocalId=\"1\"/></connectionPointIn><express\
+    ion>B</expression></outVariable></FBD></body></pou></pous></types></project>";
+
+/// No program.
+pub const NO_PROGRAM: &str =
+    "<project xmlns=\"http://www.plcopen.org/xml/tc6_0201\"><types><pous><pou name=\"Main\
+    \" pouType=\"functionBlock\"><interface><localVars><variable name=\"A\"><type><BOOL/\
+    ></type></variable><variable name=\"B\"><type><BOOL/></type></variable></localVars><\
+    /interface><body><FBD><inVariable localId=\"1\"><position x=\"0\" y=\"0\"/><connecti\
+    onPointOut/><expression>A</expression></inVariable><outVariable localId=\"2\"><posit\
+    ion x=\"0\" y=\"0\"/><connectionPointIn><connection refLocalId=\"1\"/></connectionPo\
+    intIn><expression>B</expression></outVariable></FBD></body></pou></pous></types></pr\
+    oject>";
+
+/// A motor that holds itself until it is stopped.
+pub const MOTOR: &str =
+    "<project xmlns=\"http://www.plcopen.org/xml/tc6_0201\"><types><pous><pou name=\"Ma\
+    in\" pouType=\"program\"><interface><localVars><variable name=\"Start\"><type><BOOL\
+    /></type></variable><variable name=\"Stop\"><type><BOOL/></type></variable><variabl\
+    e name=\"Motor\"><type><BOOL/></type></variable></localVars></interface><body><LD><\
+    leftPowerRail localId=\"1\"><position x=\"0\" y=\"0\"/><connectionPointOut formalPa\
+    rameter=\"\"/></leftPowerRail><contact localId=\"2\"><position x=\"0\" y=\"0\"/><co\
+    nnectionPointIn><connection refLocalId=\"1\"/></connectionPointIn><connectionPointO\
+    ut/><variable>Start</variable></contact><contact localId=\"3\"><position x=\"0\" y=\
+    \"0\"/><connectionPointIn><connection refLocalId=\"1\"/></connectionPointIn><connec\
+    tionPointOut/><variable>Motor</variable></contact><contact localId=\"4\" negated=\"\
+    true\"><position x=\"0\" y=\"0\"/><connectionPointIn><connection refLocalId=\"2\"/>\
+    <connection refLocalId=\"3\"/></connectionPointIn><connectionPointOut/><variable>St\
+    op</variable></contact><coil localId=\"5\"><position x=\"0\" y=\"0\"/><connectionPo\
+    intIn><connection refLocalId=\"4\"/></connectionPointIn><connectionPointOut/><varia\
+    ble>Motor</variable></coil><rightPowerRail localId=\"6\"><position x=\"0\" y=\"0\"/\
+    ><connectionPointIn><connection refLocalId=\"5\"/></connectionPointIn></rightPowerR\
+    ail></LD></body></pou></pous></types></project>";

@@ -11,6 +11,8 @@ mod files;
 #[cfg(test)]
 mod functions;
 #[cfg(test)]
+mod runs;
+#[cfg(test)]
 mod tests;
 #[cfg(test)]
 mod values;

@@ -3,6 +3,7 @@ use crate::files::{
 };
 use plcx_command::{Status, Words, plcx};
 use plcx_io::{MemDesk, MemFile, MemSink};
+use plcx_steps::{Silent, Watch};
 use std::alloc::Global;
 use std::test::Fail;
 
@@ -31,9 +32,9 @@ impl Left {
 /// The numbers of the calls that fail.
 #[derive(Clone, Copy)]
 pub struct Failing<'a> {
-    desk: &'a [u64],
-    out: &'a [u64],
-    err: &'a [u64],
+    pub desk: &'a [u64],
+    pub out: &'a [u64],
+    pub err: &'a [u64],
 }
 
 pub const NONE: Failing = Failing {
@@ -42,30 +43,42 @@ pub const NONE: Failing = Failing {
     err: &[],
 };
 
-/// The words over a desk with one file, `main.xml`, and sinks that take 64 bytes a call.
+/// The words over a desk with these files and sinks that take 64 bytes a call, with someone who listens.
+pub fn run_over<W: Watch>(
+    alloc: Global,
+    words: &[&str],
+    files: &[(&str, &str)],
+    failing: Failing,
+    watch: &mut W,
+) -> Result<Left, Fail> {
+    let mut said = Words::new(alloc);
+    for word in words {
+        said.push(word)?;
+    }
+    let mut stored = Vec::new(alloc);
+    for (name, text) in files {
+        let name = String::from_str(alloc, name)?;
+        stored.push(MemFile::new(name, text.as_bytes().to_vec(alloc)?))?;
+    }
+    let mut desk = MemDesk::new(stored, failing.desk.to_vec(alloc)?);
+    let mut out = MemSink::new(alloc, 4096, 64, failing.out.to_vec(alloc)?)?;
+    let mut err = MemSink::new(alloc, 4096, 64, failing.err.to_vec(alloc)?)?;
+    let status = plcx(alloc, &said, &mut desk, &mut out, &mut err, watch);
+    Ok(Left {
+        status,
+        out: out.bytes().to_vec(alloc)?,
+        err: err.bytes().to_vec(alloc)?,
+    })
+}
+
+/// The words over a desk with one file, `main.xml`.
 pub fn run_words(
     alloc: Global,
     words: &[&str],
     file: &str,
     failing: Failing,
 ) -> Result<Left, Fail> {
-    let mut said = Words::new(alloc);
-    for word in words {
-        said.push(word)?;
-    }
-    let main = MemFile::new(
-        String::from_str(alloc, "main.xml")?,
-        file.as_bytes().to_vec(alloc)?,
-    );
-    let mut desk = MemDesk::new(vec![in alloc; main]?, failing.desk.to_vec(alloc)?);
-    let mut out = MemSink::new(alloc, 4096, 64, failing.out.to_vec(alloc)?)?;
-    let mut err = MemSink::new(alloc, 4096, 64, failing.err.to_vec(alloc)?)?;
-    let status = plcx(alloc, &said, &mut desk, &mut out, &mut err);
-    Ok(Left {
-        status,
-        out: out.bytes().to_vec(alloc)?,
-        err: err.bytes().to_vec(alloc)?,
-    })
+    run_over(alloc, words, &[("main.xml", file)], failing, &mut Silent)
 }
 
 #[test]
@@ -96,8 +109,8 @@ fn refuses_what_is_no_command_or_not_built(rt: HostRuntime) -> Result<(), Fail> 
         let left = run_words(alloc, words, ONE_WIRE, NONE)?;
         assert!(rt; left.is(Status::Usage, "", USAGE));
     }
-    let simulate = run_words(alloc, &["simulate", "main.xml", "b.csv"], ONE_WIRE, NONE)?;
-    assert!(rt; simulate.is(Status::NotBuilt, "", NOT_BUILT));
+    let run = run_words(alloc, &["run", "main.xml", "b.csv"], ONE_WIRE, NONE)?;
+    assert!(rt; run.is(Status::NotBuilt, "", NOT_BUILT));
     Ok(())
 }
 

@@ -1,10 +1,12 @@
-use Rattle.std.proofs.Common.{arith, length, ◌≤◌}
 use Rattle.std.proofs.lemmas.Result.{IfOk-weaker}
-use Rattle.plcx_types.specs.Limits.{max_file_bytes}
-use Rattle.plcx_command.specs.Says.{whole}
+use Rattle.plcx_command.specs.ReplyOf.{answer_of}
+use Rattle.plcx_command.proofs.Takes.{accepted_over, refused_over}
 use Rattle.plcx_command.proofs.deciding.check_file.Goals as goal
 
-pub returns-in-Ok : goal.returns-in-Ok
-returns-in-Ok g c =
-    let short : length c.in-Ok.bytes.items ≤ max_file_bytes = omega (arith, c.in-Ok.bytes.ok.0, c.in-Ok.ensures.whole.0) in
-    IfOk-weaker c.checked.result _ _ (λ reply e. whole c.in-Ok.bytes.items short c.in-Ok.ensures.whole.1 (rw c.deref.ensures.value at e)) c.checked.ensures
+pub returns-in-Accepted : goal.returns-in-Accepted
+returns-in-Accepted g c =
+    let file = rw c.in-Accepted.is at c.in_ok-take_file.ensures.taken in
+    IfOk-weaker c.accepted.result _ _ (λ reply e. accepted_over _ _ c.args.name.now _ c.in-Accepted.field-0 (answer_of reply) file e) c.accepted.ensures
+
+pub returns-in-Refused : goal.returns-in-Refused
+returns-in-Refused g c = refused_over _ _ c.args.name.now _ (answer_of c.in-Refused.reply) (rw c.in-Refused.is at c.in_ok-take_file.ensures.taken)

@@ -1,10 +1,15 @@
-use Rattle.std.proofs.Common.{arith, length, ◌≤◌}
-use Rattle.std.proofs.lemmas.Result.{IfOk-weaker}
-use Rattle.plcx_types.specs.Limits.{max_file_bytes}
-use Rattle.plcx_command.specs.Says.{whole}
+use Rattle.std.proofs.Common.{refl}
+use Rattle.plcx_command.specs.Answer.{output}
+use Rattle.plcx_command.specs.ReplyOf.{answer_of}
+use Rattle.plcx_command.proofs.Takes.{accepted_over, refused_over, text_there}
 use Rattle.plcx_command.proofs.deciding.compile_file.Goals as goal
 
-pub returns-in-Ok : goal.returns-in-Ok
-returns-in-Ok g c =
-    let short : length c.in-Ok.bytes.items ≤ max_file_bytes = omega (arith, c.in-Ok.bytes.ok.0, c.in-Ok.ensures.whole.0) in
-    IfOk-weaker c.compiled.result _ _ (λ reply e. whole c.in-Ok.bytes.items short c.in-Ok.ensures.whole.1 (rw c.deref.ensures.value at e)) c.compiled.ensures
+pub returns-in_ok-text_of-in-Accepted : goal.returns-in_ok-text_of-in-Accepted
+returns-in_ok-text_of-in-Accepted g c =
+    let checked = c.in-Accepted.checked in
+    let file = rw c.in-Accepted.is at c.in_ok-checked.ensures.taken in
+    let text = c.in_ok-text_of-in-Accepted.field-0.items in
+    accepted_over _ _ c.args.name.now _ checked (output text) file (text_there _ checked file text (output text) c.in_ok-text_of-in-Accepted.ensures refl)
+
+pub returns-in-Refused : goal.returns-in-Refused
+returns-in-Refused g c = refused_over _ _ c.args.name.now _ (answer_of c.in-Refused.reply) (rw c.in-Refused.is at c.in_ok-checked.ensures.taken)

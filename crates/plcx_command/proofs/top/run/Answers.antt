@@ -8,6 +8,7 @@ returns-in-Ok-Output g c = record {
     answer = output c.in-Ok-Output.bytes.items;
     said = inl (rw c.in-Ok-Output.field-0-is at c.in-Ok-Output.ensures.says);
     written = rw c.deref.ensures.value at c.put.ensures;
+    heard = rw c.in-Ok-Output.field-0-is at c.in-Ok-Output.ensures.heard;
   };
   untouched = c.in-Ok-Output.ensures.untouched;
 }
@@ -18,6 +19,7 @@ returns-in-Ok-Refusal g c = record {
     answer = refusal c.in-Ok-Refusal.why c.in-Ok-Refusal.line.items;
     said = inl (rw c.in-Ok-Refusal.field-0-is at c.in-Ok-Refusal.ensures.says);
     written = rw c.deref-in-Ok-Refusal.ensures.value at c.refuse.ensures;
+    heard = rw c.in-Ok-Refusal.field-0-is at c.in-Ok-Refusal.ensures.heard;
   };
   untouched = c.in-Ok-Refusal.ensures.untouched;
 }
@@ -28,6 +30,7 @@ returns-in-Err g c = record {
     answer = memory_answer;
     said = inr refl;
     written = c.refuse-in-Err.ensures;
+    heard = c.in-Err.ensures.heard;
   };
   untouched = c.in-Err.ensures.untouched;
 }

@@ -1,0 +1,105 @@
+-- A file that was read and judged, and what follows on it.
+use Rattle.std.proofs.Common.{◌≡◌, ◌≢◌, ◌≤◌, ◌+◌, ◌-◌, ◌^◌, ℕ, List, min, length, refl, sym, ap, subst, arith, Ok, Err}
+use Rattle.std.specs.Prelude.{Option, Result, MatchResult, IfOk, OnOk}
+use Rattle.std.proofs.Math.Path.{fun_ext}
+use Rattle.plcx_io.specs.Counts.{Rose, raised}
+use Rattle.plcx_io.specs.Told.{Tells}
+use Rattle.plcx_types.specs.Limits.{max_file_bytes}
+use Rattle.plcx_meaning.specs.Diagram.{Project}
+use Rattle.plcx_meaning.specs.Evaluate.{Heard}
+use Rattle.plcx_model.specs.declared.broken.Broken as model
+use Rattle.plcx_check.specs.declared.checked.Checked.{Checked}
+use Rattle.plcx_view.specs.Diagrams.{diagrams_of}
+use Rattle.plcx_words.specs.Command.{Run}
+use Rattle.plcx_traced.specs.Runs.{ComesTo}
+use Rattle.plcx_traced.specs.declared.error.RunError.{RunError}
+use Rattle.plcx_traced.specs.declared.error.RunError.TheVariants as error
+use Rattle.plcx_traced.proofs.Made.{not_wider}
+use Rattle.plcx_simulate.specs.Programs.{programs_of, diagrams_in}
+use Rattle.plcx_command.specs.Answer.{Answer, output, broken_answer}
+use Rattle.plcx_command.specs.Compiled.{HasDiagrams, IsTextOf}
+use Rattle.plcx_command.specs.Hears.{HearsRun}
+use Rattle.plcx_command.specs.ReplyOf.{answer_of}
+use Rattle.plcx_command.specs.Says.{AfterRead, fault, too_long, whole, Judged, Answers, IsText, long_answer}
+use Rattle.plcx_command.specs.Simulated.{AnswersRun, IsSimulated, answer_to}
+use Rattle.plcx_command.specs.Taken.{IsTaken, IsAccepted, IsTakenFrom}
+use Rattle.plcx_command.specs.Verdict as verdict
+use Rattle.plcx_command.specs.Verdict.{Verdict, Refused, Passed}
+use Rattle.plcx_command.specs.declared.deciding.Taken as taken
+use Rattle.plcx_command.specs.declared.deciding.Taken.TheVariants as taken'
+
+-- the verdict on the bytes of a file is that on the file
+pub taken_whole : (told : Option (List ℕ)) (rose : Type 0) (name bytes : List ℕ) → length bytes ≤ max_file_bytes → Tells told bytes → (t : taken.Taken)
+    → IsTaken bytes t → IsTakenFrom told rose name t
+taken_whole told rose name bytes short tells (taken'.Accepted c) h = record { bytes = bytes; short = short; tells = tells; keeps = h.0; checked = h.1 }
+taken_whole told rose name bytes short tells (taken'.Refused reply) h = whole bytes short tells (record { verdict = verdict.Broken h.0; judged = Refused h.1; answers = h.2 })
+
+-- a file that is refused is refused whatever would follow
+refused_alone : (next : Answer → Type 0) (v : Verdict) (a : Answer) → Answers (λ _. ⊥) v a → Answers next v a
+refused_alone next verdict.Accepted a h = absurd h
+refused_alone next (verdict.Broken b) a h = h
+
+pub refused_over : (told : Option (List ℕ)) (rose : Type 0) (name : List ℕ) (next : List ℕ → Answer → Type 0) (a : Answer)
+    → AfterRead told rose name long_answer (λ bytes. Judged bytes (λ _. ⊥)) a
+    → AfterRead told rose name long_answer (λ bytes. Judged bytes (next bytes)) a
+refused_over told rose name next a (fault r e) = fault r e
+refused_over told rose name next a (too_long l e) = too_long l e
+refused_over told rose name next a (whole bytes short tells j) = whole bytes short tells (record { verdict = j.verdict; judged = j.judged; answers = refused_alone (next bytes) j.verdict a j.answers })
+
+-- and on one that is accepted something follows
+pub accepted_over : (told : Option (List ℕ)) (rose : Type 0) (name : List ℕ) (next : List ℕ → Answer → Type 0) (c : Checked) (a : Answer) (file : IsAccepted told c) → next file.bytes a
+    → AfterRead told rose name long_answer (λ bytes. Judged bytes (next bytes)) a
+accepted_over told rose name next c a file n = whole file.bytes file.short file.tells (record { verdict = verdict.Accepted; judged = Passed c.project file.keeps; answers = n })
+
+-- the diagrams of a file that is accepted
+pub diagrams_there : (told : Option (List ℕ)) (c : Checked) (file : IsAccepted told c) → HasDiagrams file.bytes (diagrams_in c)
+diagrams_there told c file = record { project = c.project; keeps = file.keeps; links = c.links; types = c.types; plan = c.plan; checked = file.checked; are = refl }
+
+-- its text
+pub text_there : (told : Option (List ℕ)) (c : Checked) (file : IsAccepted told c) (text : List ℕ) (a : Answer)
+    → IsTextOf (diagrams_of c.project c.links c.types c.plan) text → a ≡ output text → IsText file.bytes a
+text_there told c file text a t e = record { text = text; compiled = record { diagrams = diagrams_in c; has = diagrams_there told c file; text_of = t }; answer = e }
+
+-- ---- over a desk that tells the same
+
+pub rose_later : (before between now : ℕ) → before ≤ between → Rose between now → Rose before now
+rose_later before between now le h = omega arith
+
+abbrev pub accepted_same : (told same : Option (List ℕ)) (c : Checked) → told ≡ same → IsAccepted told c → IsAccepted same c
+accepted_same told same c e h = record { bytes = h.bytes; short = h.short; tells = subst (λ t. Tells t h.bytes) e h.tells; keeps = h.keeps; checked = h.checked }
+
+comes_wider : (told : List ℕ → Option (List ℕ)) (rose more : List ℕ → Type 0) → ((name : List ℕ) → rose name → more name) → (project : Project) (r : Run) (x : Result (List ℕ) RunError)
+    → ComesTo told rose (programs_of project) r x → ComesTo told more (programs_of project) r x
+comes_wider told rose more w project r (Ok text) h = h
+comes_wider told rose more w project r (Err e) h = not_wider (programs_of project) told r rose more w e h
+
+answers_wider : (told : List ℕ → Option (List ℕ)) (rose more : List ℕ → Type 0) → ((name : List ℕ) → rose name → more name) → (r : Run) (bytes : List ℕ) (a : Answer)
+    → AnswersRun told rose r bytes a → AnswersRun told more r bytes a
+answers_wider told rose more w r bytes a h = record {
+  outcome = h.outcome;
+  simulated = record {
+    diagrams = h.simulated.diagrams;
+    has = h.simulated.has;
+    comes = comes_wider told rose more w h.simulated.diagrams r h.outcome h.simulated.comes;
+    there = h.simulated.there;
+  };
+  answer = h.answer;
+}
+
+pub answers_later : (told same : List ℕ → Option (List ℕ)) → ((name : List ℕ) → told name ≡ same name) → (rose more : List ℕ → Type 0)
+    → ((name : List ℕ) → rose name → more name) → (r : Run) (bytes : List ℕ) (a : Answer)
+    → AnswersRun told rose r bytes a → AnswersRun same more r bytes a
+answers_later told same e rose more w r bytes a h = answers_wider same rose more w r bytes a (subst (λ (t : List ℕ → Option (List ℕ)). AnswersRun t rose r bytes a) (fun_ext e) h)
+
+pub hears_later : (told same : List ℕ → Option (List ℕ)) → ((name : List ℕ) → told name ≡ same name) → (Became : List Heard → Type 0) (r : Run) (a : Answer)
+    → HearsRun told Became r a → HearsRun same Became r a
+hears_later told same e Became r a h = subst (λ (t : List ℕ → Option (List ℕ)). HearsRun t Became r a) (fun_ext e) h
+
+-- what holds of a value, with what holds where there is one
+pub both_ok : {A E : Type 0} (res : Result A E) (P : Type 0) (Q R : A → Type 0) → ((x : A) → P → Q x → R x) → OnOk res P → IfOk res Q → IfOk res R
+both_ok (Ok x) P Q R f p q = f x p q
+both_ok (Err e) P Q R f p q = q
+
+pub match_weaker : {A E : Type 0} (res : Result A E) (P P' : A → Type 0) (Q Q' : E → Type 0) → ((x : A) → P x → P' x) → ((e : E) → Q e → Q' e) → MatchResult res P Q → MatchResult res P' Q'
+match_weaker (Ok x) P P' Q Q' f g h = f x h
+match_weaker (Err e) P P' Q Q' f g h = g e h

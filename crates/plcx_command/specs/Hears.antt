@@ -1,0 +1,55 @@
+-- What a watch hears of a command.
+use Rattle.std.specs.Prelude.{◌≤◌, ℕ, List, [], Option, Some, None, length, ◌⊎◌}
+use Rattle.plcx_io.specs.Told.{Tells}
+use Rattle.plcx_types.specs.Limits.{max_file_bytes}
+use Rattle.plcx_meaning.specs.Diagram.{Project}
+use Rattle.plcx_meaning.specs.Evaluate.{Heard}
+use Rattle.plcx_words.specs.Command.{Command, Run, check, compile, simulate, run, bench}
+use Rattle.plcx_simulate.specs.Watching.{HearsAll, HearsFront}
+use Rattle.plcx_command.specs.Answer.{Answer, output, refusal}
+use Rattle.plcx_command.specs.Compiled.{HasDiagrams}
+use Rattle.plcx_command.specs.declared.status.Refused.{Refused}
+use Rattle.plcx_command.specs.declared.status.Refused.TheVariants.{Broken, Usage, ReadFault, NoMemory, EventsBroken, NoProgram, NotBuilt}
+
+-- the diagrams of the file that a run names
+pub record HasFile (told : List ℕ → Option (List ℕ)) (r : Run) (diagrams : Project) : Type 0 where
+  pub bytes : List ℕ
+  pub short : length bytes ≤ max_file_bytes
+  pub tells : Tells (told r.file) bytes
+  pub has : HasDiagrams bytes diagrams
+
+-- a watch has heard all of a simulation that leaves this text
+pub record IsHeard (told : List ℕ → Option (List ℕ)) (r : Run) (text : List ℕ) (Became : List Heard → Type 0) : Type 0 where
+  pub diagrams : Project
+  pub file : HasFile told r diagrams
+  pub heard : HearsAll told diagrams r text Became
+
+-- or a front of what is heard of one
+pub record IsHeardInPart (told : List ℕ → Option (List ℕ)) (r : Run) (Became : List Heard → Type 0) : Type 0 where
+  pub diagrams : Project
+  pub file : HasFile told r diagrams
+  pub heard : HearsFront told diagrams r Became
+
+-- nothing is heard of a run that is refused; but where memory is wanted some of it may have been heard
+abbrev pub HearsRefused : (List ℕ → Option (List ℕ)) → (List Heard → Type 0) → Run → Refused → Type 0
+HearsRefused told Became r NoMemory = Became [] ⊎ IsHeardInPart told r Became
+HearsRefused told Became r Broken = Became []
+HearsRefused told Became r Usage = Became []
+HearsRefused told Became r ReadFault = Became []
+HearsRefused told Became r EventsBroken = Became []
+HearsRefused told Became r NoProgram = Became []
+HearsRefused told Became r NotBuilt = Became []
+
+-- what is heard of a run, by what is answered
+abbrev pub HearsRun : (List ℕ → Option (List ℕ)) → (List Heard → Type 0) → Run → Answer → Type 0
+HearsRun told Became r (output text) = IsHeard told r text Became
+HearsRun told Became r (refusal why line) = HearsRefused told Became r why
+
+-- nothing is heard of other actions
+abbrev pub Hears : (List ℕ → Option (List ℕ)) → (List Heard → Type 0) → Option Command → Answer → Type 0
+Hears told Became None a = Became []
+Hears told Became (Some (check name)) a = Became []
+Hears told Became (Some (compile name)) a = Became []
+Hears told Became (Some (simulate r)) a = HearsRun told Became r a
+Hears told Became (Some (run r)) a = Became []
+Hears told Became (Some (bench n)) a = Became []

@@ -1,0 +1,82 @@
+//! Replies: an output, or a refusal with its line.
+ghost use Rattle.std.specs.Prelude.{◌≡◌, ◌≢◌, IfOk, OnOk};
+ghost use Rattle.std.specs.Option.{option_map};
+ghost use Rattle.plcx_words.specs.Says.{said_by_run};
+ghost use Rattle.plcx_traced.specs.declared.error.RunError.TheVariants as run_error;
+ghost use Rattle.plcx_command.specs.Answer.{refusal, ok_answer, usage_answer, not_built_answer, read_answer, broken_answer};
+ghost use Rattle.plcx_command.specs.Simulated.{refused_as, error_line};
+ghost use Rattle.plcx_command.specs.ReplyOf.{answer_of};
+
+use crate::line::{broken_line, program_line, retained_line, row_line};
+use crate::reply::Reply;
+use crate::status::Refused;
+use plcx_model::Broken;
+use plcx_traced::RunError;
+use plcx_types::NoMemory;
+use plcx_words::Run;
+use std::alloc::Global;
+
+/// What words answer that ask for nothing.
+pub fn usage(alloc: Global) -> Result<Reply, NoMemory>
+    ensures { IfOk result (λ reply. answer_of reply ≡ usage_answer) }
+{
+    let line =
+        b"plcx: usage: plcx ACTION FILE [EVENTS] [--program NAME] [--turns N] [--retain FILE]\n";
+    Ok(Reply::Refusal(Refused::Usage, line.to_vec(alloc)?))
+}
+
+/// What an action answers that is not built.
+pub fn not_built(alloc: Global) -> Result<Reply, NoMemory>
+    ensures { IfOk result (λ reply. answer_of reply ≡ not_built_answer) }
+{
+    Ok(Reply::Refusal(Refused::NotBuilt, b"plcx: not built\n".to_vec(alloc)?))
+}
+
+/// What a file answers that is accepted, and only judged.
+pub fn accepted(alloc: Global) -> Result<Reply, NoMemory>
+    ensures { IfOk result (λ reply. answer_of reply ≡ ok_answer) }
+{
+    Ok(Reply::Output(b"ok\n".to_vec(alloc)?))
+}
+
+/// What a file answers that can't be read.
+pub fn read_fault(alloc: Global, name: &str) -> Result<Reply, NoMemory>
+    ensures { IfOk result (λ reply. answer_of reply ≡ read_answer name.now) }
+{
+    let mut line = b"plcx: cannot read ".to_vec(alloc)?;
+    line.extend_from_slice(name.as_bytes())?;
+    line.push(b'\n')?;
+    Ok(Reply::Refusal(Refused::ReadFault, line))
+}
+
+/// What a file answers that breaks a rule.
+pub fn broken(alloc: Global, broken: &Broken) -> Result<Reply, NoMemory>
+    ensures { IfOk result (λ reply. answer_of reply ≡ broken_answer broken.now) }
+{
+    let line = broken_line(alloc, broken)?;
+    Ok(Reply::Refusal(Refused::Broken, line))
+}
+
+/// What a run answers that leaves no trace, unless memory is wanted.
+pub fn no_trace(alloc: Global, run: &Run<'_>, error: RunError) -> Result<Reply, NoMemory>
+    ensures answer { IfOk result (λ reply. answer_of reply ≡ refusal (refused_as error) (error_line (said_by_run run.now) error)) }
+    ensures there { OnOk result (error ≢ run_error.NoMemory) }
+{
+    match error {
+        RunError::NoProgram { programs } => {
+            let line = program_line(alloc, run.program, programs)?;
+            Ok(Reply::Refusal(Refused::NoProgram, line))
+        }
+        RunError::RetainedRead => read_fault(alloc, run.retain.unwrap_or("")),
+        RunError::Line { line } => {
+            let line = retained_line(alloc, line)?;
+            Ok(Reply::Refusal(Refused::EventsBroken, line))
+        }
+        RunError::EventsRead => read_fault(alloc, run.events),
+        RunError::Row { row } => {
+            let line = row_line(alloc, row)?;
+            Ok(Reply::Refusal(Refused::EventsBroken, line))
+        }
+        RunError::NoMemory => Err(NoMemory),
+    }
+}

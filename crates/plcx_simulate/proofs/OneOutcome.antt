@@ -1,0 +1,19 @@
+-- A simulation comes to one thing.
+use Rattle.std.proofs.Common.{◌≡◌, ◌≢◌, ℕ, List}
+use Rattle.std.specs.Prelude.{Option, Result, Err}
+use Rattle.plcx_meaning.specs.Diagram.{Project}
+use Rattle.plcx_words.specs.Command.{Run}
+use Rattle.plcx_traced.specs.Programs.{IsMissing}
+use Rattle.plcx_traced.specs.Runs.{AreTold, ComesTo}
+use Rattle.plcx_traced.specs.declared.error.RunError.{RunError}
+use Rattle.plcx_traced.specs.declared.error.RunError.TheVariants.{NoProgram, NoMemory}
+use Rattle.plcx_traced.proofs.OneOutcome as runs
+use Rattle.plcx_simulate.specs.Programs.{programs_of}
+
+pub one_outcome : (project : Project) (told : List ℕ → Option (List ℕ)) (r : Run) → AreTold told r → (x y : Result (List ℕ) RunError) → x ≢ Err NoMemory → y ≢ Err NoMemory
+    → ComesTo told (λ _. ⊥) (programs_of project) r x → ComesTo told (λ _. ⊥) (programs_of project) r y → x ≡ y
+one_outcome project told r all = runs.one_outcome (programs_of project) told r all
+
+pub missing_alone : (project : Project) (told : List ℕ → Option (List ℕ)) (r : Run) (x : Result (List ℕ) RunError) → x ≢ Err NoMemory → ComesTo told (λ _. ⊥) (programs_of project) r x
+    → IsMissing (programs_of project) r.program → (programs : ℕ) × (x ≡ Err (NoProgram programs))
+missing_alone project told r x = runs.missing_alone (programs_of project) told (λ _. ⊥) r x
