@@ -1,7 +1,7 @@
 -- Events as they are kept: one more behind the others, and one after another from the front.
-use Rattle.std.proofs.Common.{◌≡◌, ◌<◌, ◌≤◌, ◌+◌, ◌∷◌, ◌++◌, ◌∙◌, ℕ, zero, suc, List, [], Option, Some, None, take, drop, length, get_or, refl, sym, ap, ap₂, subst, arith, length-append, length-drop, add-one}
+use Rattle.std.proofs.Common.{◌≡◌, ◌<◌, ◌≤◌, ◌+◌, ◌∷◌, ◌++◌, ◌∙◌, ℕ, zero, suc, List, [], take, drop, length, get_or, refl, sym, ap, ap₂, arith, length-drop}
 use Rattle.std.proofs.Math.Seq.{take-length}
-use Rattle.std.proofs.lemmas.List.{append-nil, take-append-le, drop-append-le, drop_more, nil_from_length}
+use Rattle.std.proofs.lemmas.List.{take-append-le, drop-append-le, drop_more, nil_from_length}
 use Rattle.plcx_scan.specs.declared.event.Entry.{Entry}
 use Rattle.plcx_scan.specs.declared.event.Input.{Input}
 use Rattle.plcx_scan.specs.Events.{Event}

@@ -75,11 +75,7 @@ fn push_input(inputs: &mut Vec<Input>, column: Column, field: &[u8]) -> Result<b
 }
 
 /// Takes the inputs of the fields of a scan; not where one has something that is no value of its leaf.
-fn read_inputs(
-    inputs: &mut Vec<Input>,
-    columns: &[Column],
-    row: &Record,
-) -> Result<bool, NoMemory>
+fn read_inputs(inputs: &mut Vec<Input>, columns: &[Column], row: &Record) -> Result<bool, NoMemory>
     requires { length row.now ≡ length columns.now + 2 }
     ensures { IfOk result (λ went. option_map (λ some. inputs.old.items ++ some) (inputs_of columns.now (drop 2 row.now)) ≡ (if went then Some inputs.new.items else None)) }
 {

@@ -1,5 +1,4 @@
-use Rattle.std.proofs.Common.{◌≡◌, ◌∷◌, List, [], length, arith}
-use Rattle.plcx_scan.specs.Files.{Record}
+use Rattle.std.proofs.Common.{◌≡◌, ◌∷◌, [], length, arith}
 use Rattle.plcx_scan.proofs.EventFiles.{read_all, read_more, read_none}
 use Rattle.plcx_scan.proofs.reading.read_rows.Goals as goal
 

@@ -32,13 +32,13 @@ split_at-requires g c =
 pub row_after-requires-clause-event : goal.row_after-requires-clause-event
 row_after-requires-clause-event g c =
     let at = event_here c.args.events.now c.deref-entry-items.result.now c.loop-entry.rest.now c.loop-entry.entry-index (Scan (pos 0) 0) c.loop-entry-test.true c.loop-entry.invariant.left
-        c.count.result c.count.ensures c.split_at.result.0.now c.split_at.ensures.front in
+    c.count.result c.count.ensures c.split_at.result.0.now c.split_at.ensures.front in
     (follow_next _ _ c.args.events.now c.loop-entry.entry-index _ at.there at.is c.loop-entry.invariant.follow).0
 
 pub returns-in_err-row-clause-stopped : goal.returns-in_err-row-clause-stopped
 returns-in_err-row-clause-stopped g c =
     let at = event_here c.args.events.now c.deref-entry-items.result.now c.loop-entry.rest.now c.loop-entry.entry-index (Scan (pos 0) 0) c.loop-entry-test.true c.loop-entry.invariant.left
-        c.count.result c.count.ensures c.split_at.result.0.now c.split_at.ensures.front in
+    c.count.result c.count.ensures c.split_at.result.0.now c.split_at.ensures.front in
     let inv = c.loop-entry.invariant in
     let there = at.there in
     let m = g.S.Side.machine c.args.side.now in
@@ -52,7 +52,7 @@ returns-in_err-row-clause-stopped g c =
 pub returns-in_err-push-clause-stopped : goal.returns-in_err-push-clause-stopped
 returns-in_err-push-clause-stopped g c =
     let at = event_here c.args.events.now c.deref-entry-items.result.now c.loop-entry.rest.now c.loop-entry.entry-index (Scan (pos 0) 0) c.loop-entry-test.true c.loop-entry.invariant.left
-        c.count.result c.count.ensures c.split_at.result.0.now c.split_at.ensures.front in
+    c.count.result c.count.ensures c.split_at.result.0.now c.split_at.ensures.front in
     let inv = c.loop-entry.invariant in
     let there = at.there in
     let m = g.S.Side.machine c.args.side.now in
@@ -66,7 +66,7 @@ returns-in_err-push-clause-stopped g c =
 pub loop-entry-preserved : goal.loop-entry-preserved
 loop-entry-preserved g c =
     let at = event_here c.args.events.now c.deref-entry-items.result.now c.loop-entry.rest.now c.loop-entry.entry-index (Scan (pos 0) 0) c.loop-entry-test.true c.loop-entry.invariant.left
-        c.count.result c.count.ensures c.split_at.result.0.now c.split_at.ensures.front in
+    c.count.result c.count.ensures c.split_at.result.0.now c.split_at.ensures.front in
     let inv = c.loop-entry.invariant in
     let after = c.row_after.ensures in
     let made = c.in_ok-row.ensures in
@@ -95,14 +95,14 @@ returns-clause-lines g c =
     let inv = c.loop-entry.invariant in
     let m = g.S.Side.machine c.args.side.now in
     let all = all_events c.args.events.now c.events.inside.entries.items c.deref-entry-items.result.now c.events.inside.inputs.items c.loop-entry.entry-index c.events.view_is c.deref-entry-items.ensures.value
-        c.loop-entry.auto.entry-index-end c.loop-entry-test.false in
+    c.loop-entry.auto.entry-index-end c.loop-entry-test.false in
     pushed_lines m c.args.turns (meant_events (g.S.Side.laid c.args.side.now).leaves c.args.events.now) (g.S.Side.stands_for c.args.side.now) c.from_vec.result c.loop-entry.rows.items c.from_vec.ensures
     (subst (λ (es : List Event). HasLines m c.args.turns (meant_events (g.S.Side.laid c.args.side.now).leaves es) (g.S.Side.stands_for c.args.side.now) (meant_lines c.loop-entry.rows.items)) all inv.lines)
 
 pub returns-clause-meaning : goal.returns-clause-meaning
 returns-clause-meaning g c =
     let all = all_events c.args.events.now c.events.inside.entries.items c.deref-entry-items.result.now c.events.inside.inputs.items c.loop-entry.entry-index c.events.view_is c.deref-entry-items.ensures.value
-        c.loop-entry.auto.entry-index-end c.loop-entry-test.false in
+    c.loop-entry.auto.entry-index-end c.loop-entry-test.false in
     subst (λ (es : List Event). BringsAll (g.S.Side.machine c.args.side.now) c.args.turns (meant_events (g.S.Side.laid c.args.side.now).leaves es) (g.S.Side.stands_for c.args.side.now) (g.S.Side.stands_for c.loop-entry.side)) all
     c.loop-entry.invariant.meaning
 

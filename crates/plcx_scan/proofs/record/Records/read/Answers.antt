@@ -21,14 +21,14 @@ returns c =
     let is = c.self.invariant c.if-self.false in
     let whole : c.args.self.now ≡ left_of a = sym c.self.view_is ∙ ap (λ (ended : Bool). if ended then [] else left_of a) c.if-self.false in
     elim c.match-read_byte_record.branch [
-      in-Ok-true w ↦
-        let r = rw w.in-Ok-true.field-0-test at (w.in-Ok-true.ensures.reads is.trim_is is.ready) in
-        let rest : c.match-read_byte_record.self ≡ left_of b = w.self-is ∙ ap (λ (ended : Bool). if ended then [] else left_of b) c.if-self.false in
-        let first : c.args.self.now ≡ fields ∷ c.match-read_byte_record.self = whole ∙ reads a b true fields is r ∙ ap (λ (t : List Record). fields ∷ t) (sym rest) in
-        rw w.result-is first
-    | in-Ok-false w ↦
-        let r = rw w.in-Ok-false.field-0-test at (w.in-Ok-false.ensures.reads is.trim_is is.ready) in
-        let none : c.args.self.now ≡ [] = whole ∙ reads a b false fields is r in
-        rw w.result-is none
-    | in-Err w ↦ rw w.result-is tt
+      | in-Ok-true w ↦
+          let r = rw w.in-Ok-true.field-0-test at (w.in-Ok-true.ensures.reads is.trim_is is.ready) in
+          let rest : c.match-read_byte_record.self ≡ left_of b = w.self-is ∙ ap (λ (ended : Bool). if ended then [] else left_of b) c.if-self.false in
+          let first : c.args.self.now ≡ fields ∷ c.match-read_byte_record.self = whole ∙ reads a b true fields is r ∙ ap (λ (t : List Record). fields ∷ t) (sym rest) in
+          rw w.result-is first
+      | in-Ok-false w ↦
+          let r = rw w.in-Ok-false.field-0-test at (w.in-Ok-false.ensures.reads is.trim_is is.ready) in
+          let none : c.args.self.now ≡ [] = whole ∙ reads a b false fields is r in
+          rw w.result-is none
+      | in-Err w ↦ rw w.result-is tt
     ]
