@@ -1,5 +1,5 @@
 -- Whole files of events: what is read of them, and where they are wrong.
-use Rattle.std.proofs.Common.{◌≡◌, ◌<◌, ◌+◌, ◌∷◌, ◌++◌, ◌∙◌, ℕ, suc, List, [], Some, None, take, length, get_or, refl, sym, ap, subst, arith}
+use Rattle.std.proofs.Common.{◌≡◌, ◌+◌, ◌∷◌, ◌++◌, ◌∙◌, ℕ, zero, suc, List, [], Some, None, take, drop, length, refl, sym, ap, subst, arith, length-append}
 use Rattle.std.specs.Option.{option_map}
 use Rattle.std.proofs.lemmas.List.{take_more}
 use Rattle.std.proofs.lemmas.Option.{same_Some}
@@ -7,15 +7,19 @@ use Rattle.plcx_meaning.specs.Run as run
 use Rattle.plcx_state.specs.declared.layout.Leaf.{Leaf}
 use Rattle.plcx_state.specs.Layouts.{all_meant}
 use Rattle.plcx_scan.specs.declared.column.Column.{Column}
-use Rattle.plcx_scan.specs.declared.event.Event.{Event}
-use Rattle.plcx_scan.specs.Events.{last_at_end, meant_events, CanFollow}
+use Rattle.plcx_scan.specs.declared.event.Entry.{Entry}
+use Rattle.plcx_scan.specs.declared.event.Input.{Input}
+use Rattle.plcx_scan.specs.Entries.{event_of, events_of, WasRead}
+use Rattle.plcx_scan.specs.Events.{Event, last_after, last_at_end, meant_events, CanFollow}
 use Rattle.plcx_scan.specs.Files.{Record, RecordsStandFor, IsFirstWrong, wrong}
-use Rattle.plcx_scan.specs.ReadFiles.{columns_of, row_event, rows_events, CanTell, IsUnread, WhyNotRows}
+use Rattle.plcx_scan.specs.ReadFiles.{columns_of, row_event, rows_events, AreRead, CanTell, IsUnread, WhyNotRows}
 use Rattle.plcx_scan.specs.Errors.{WhyNotRecords}
 use Rattle.plcx_scan.specs.declared.reading.EventError.{EventError}
 use Rattle.plcx_scan.specs.declared.reading.EventError.TheVariants.{Row, NoMemory}
+use Rattle.plcx_scan.proofs.Entries.{AtPlace, at_place, count_push, events_push}
 use Rattle.plcx_scan.proofs.EventRows.{rows_sound, rows_complete, rows_push}
 use Rattle.plcx_scan.proofs.Headers.{header_sound, header_complete}
+use Rattle.plcx_scan.proofs.Runs.{last_push}
 
 -- records that are read stand for what is read
 pub records_sound : (leaves : List Leaf) → CanTell leaves → (header : Record) (rows : List Record) (ds : List Column) (es : List Event) → columns_of leaves header ≡ Some ds → rows_events ds 0 rows ≡ Some es
@@ -62,26 +66,47 @@ row_wrong leaves tells header rows ds columns place u =
         let both : None ≡ Some r.1 = sym u.unread ∙ ap (λ (x : List Column). rows_events x 0 (take (place + 1) rows)) (sym same) ∙ r.3 in
         cc
 
--- one record more that is read
-pub read_more : (ds : List Column) (rows : List Record) (place : ℕ) (row : Record) (es more : List Event) (e : Event) (last : ℕ) → place < length rows → row ≡ get_or rows place row
-    → rows_events ds 0 (take place rows) ≡ Some es → last ≡ last_at_end 0 es → Some e ≡ row_event ds last row → more ≡ es ++ e ∷ [] → rows_events ds 0 (take (place + 1) rows) ≡ Some more
-read_more ds rows place row es more e last lt is before last_is read pushed =
-    ap (rows_events ds 0) (take_more rows place row lt ∙ ap (λ (r : Record). take place rows ++ r ∷ []) (sym is))
-    ∙ rows_push ds 0 (take place rows) row es before
-    ∙ ap (option_map (λ (x : Event). es ++ x ∷ [])) (ap (λ n. row_event ds n row) (sym last_is) ∙ sym read)
-    ∙ ap Some (sym pushed)
+-- one record more
+module _ (ds : List Column) (rows left : List Record) (entries : List Entry) (inputs : List Input) (last : ℕ) (are : AreRead ds rows left entries inputs last) (row : Record) (rest : List Record) (first : left ≡ row ∷ rest) where
+  place : AtPlace rows rest (length entries) row
+  place = at_place rows rest (length entries) row (sym are.left_are ∙ first)
 
--- one that is not read
-pub read_none : (ds : List Column) (rows : List Record) (place : ℕ) (row : Record) (es : List Event) (last : ℕ) → place < length rows → row ≡ get_or rows place row
-    → rows_events ds 0 (take place rows) ≡ Some es → last ≡ last_at_end 0 es → None ≡ row_event ds last row → IsUnread ds rows place
-read_none ds rows place row es last lt is before last_is read = record {
-  there = lt;
-  events = es;
-  before = before;
-  unread = ap (rows_events ds 0) (take_more rows place row lt ∙ ap (λ (r : Record). take place rows ++ r ∷ []) (sym is))
-      ∙ rows_push ds 0 (take place rows) row es before
-      ∙ ap (option_map (λ (x : Event). es ++ x ∷ [])) (ap (λ n. row_event ds n row) (sym last_is) ∙ sym read);
-}
+  with_row : rows_events ds 0 (take (length entries + 1) rows) ≡ option_map (λ (e : Event). events_of entries inputs ++ e ∷ []) (row_event ds last row)
+  with_row =
+      ap (rows_events ds 0) (take_more rows (length entries) row place.there ∙ ap (λ (r : Record). take (length entries) rows ++ r ∷ []) (sym place.is))
+      ∙ rows_push ds 0 (take (length entries) rows) row (events_of entries inputs) are.read
+      ∙ ap (λ n. option_map (λ (e : Event). events_of entries inputs ++ e ∷ []) (row_event ds n row)) (sym are.last_is)
+
+  -- that is read
+  pub read_more : (more : List Input) (e : Entry) (next : ℕ) → WasRead (row_event ds last row) inputs more (Some e) → ((is : List Input) → next ≡ last_after last (event_of e is)) → AreRead ds rows rest (entries ++ e ∷ []) more next
+  read_more more e next read after =
+      let pushed : events_of (entries ++ e ∷ []) more ≡ events_of entries inputs ++ event_of e read.0 ∷ [] = ap (events_of (entries ++ e ∷ [])) read.1 ∙ events_push entries e inputs read.0 are.counted read.2 in
+      let long : length (entries ++ e ∷ []) ≡ length entries + 1 = length-append entries (e ∷ []) in
+      record {
+        counted = count_push entries e ∙ omega (arith, are.counted, read.2, length-append inputs read.0, ap length read.1);
+        left_are = sym place.behind ∙ ap (λ n. drop n rows) (sym long);
+        read = ap (λ n. rows_events ds 0 (take n rows)) long ∙ with_row ∙ ap (option_map (λ (x : Event). events_of entries inputs ++ x ∷ [])) read.3 ∙ ap Some (sym pushed);
+        last_is = after read.0 ∙ ap (λ n. last_after n (event_of e read.0)) are.last_is ∙ sym (last_push 0 (events_of entries inputs) (event_of e read.0)) ∙ ap (last_at_end 0) (sym pushed);
+      }
+
+  -- that is not read
+  pub read_none : row_event ds last row ≡ None → IsUnread ds rows (length entries)
+  read_none none = record {
+    there = place.there;
+    events = events_of entries inputs;
+    before = are.read;
+    unread = with_row ∙ ap (option_map (λ (x : Event). events_of entries inputs ++ x ∷ [])) none;
+  }
+
+-- where none is left, all were read
+all_taken : {A : Type 0} (xs : List A) (n : ℕ) → drop n xs ≡ [] → take n xs ≡ xs
+all_taken [] zero h = refl
+all_taken [] (suc n) h = refl
+all_taken (x ∷ xs) zero h = absurd (cc)
+all_taken {A = A} (x ∷ xs) (suc n) h = ap (λ (t : List A). x ∷ t) (all_taken xs n h)
+
+pub read_all : (ds : List Column) (rows left : List Record) (entries : List Entry) (inputs : List Input) (last : ℕ) → AreRead ds rows left entries inputs last → left ≡ [] → rows_events ds 0 rows ≡ Some (events_of entries inputs)
+read_all ds rows left entries inputs last are none = ap (rows_events ds 0) (sym (all_taken rows (length entries) (sym are.left_are ∙ none))) ∙ are.read
 
 -- why the records behind a header are not read is why the file is wrong
 pub rows_wrong : (leaves : List Leaf) → CanTell leaves → (header : Record) (rows : List Record) (ds : List Column) → columns_of leaves header ≡ Some ds → (e : EventError) → WhyNotRows ds rows e

@@ -24,10 +24,8 @@ use Rattle.plcx_meaning.specs.Run as run
 use Rattle.plcx_state.specs.declared.layout.Leaf.{Leaf}
 use Rattle.plcx_state.proofs.Keeping.{stands_ranged}
 use Rattle.plcx_scan.specs.declared.column.Column.{Column}
-use Rattle.plcx_scan.specs.declared.event.Event.{Event}
-use Rattle.plcx_scan.specs.declared.event.Event.TheVariants.{Scan, Warm, Cold}
 use Rattle.plcx_scan.specs.declared.event.Input.{Input}
-use Rattle.plcx_scan.specs.Events.{last_at_end, path_of, meant_input, meant_event, meant_events, CanBeNext, CanFollow, last_after}
+use Rattle.plcx_scan.specs.Events.{Event, Scan, Warm, Cold, last_at_end, path_of, meant_input, meant_event, meant_events, CanBeNext, CanFollow, last_after}
 use Rattle.plcx_scan.specs.Events as events
 use Rattle.plcx_scan.specs.Files.{Record, max_time_digits, IsTime, AreInputs, IsScan, IsRestart, IsEvent, AreEvents}
 use Rattle.plcx_scan.specs.Files as files

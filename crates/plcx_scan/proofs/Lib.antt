@@ -1,7 +1,8 @@
 pub mod Picked
 pub mod Runs
 pub mod Told
-pub mod OneList
+pub mod Left
+pub mod Entries
 pub mod Digits
 pub mod Fields
 pub mod Headers

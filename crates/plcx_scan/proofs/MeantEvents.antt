@@ -5,10 +5,8 @@ use Rattle.plcx_meaning.specs.Run as run
 use Rattle.plcx_meaning.proofs.Lists.{contains_map}
 use Rattle.plcx_state.specs.declared.layout.Leaf.{Leaf}
 use Rattle.plcx_state.specs.Layouts.{all_meant, meant}
-use Rattle.plcx_scan.specs.declared.event.Event.{Event}
-use Rattle.plcx_scan.specs.declared.event.Event.TheVariants.{Scan, Warm, Cold}
 use Rattle.plcx_scan.specs.declared.event.Input.{Input}
-use Rattle.plcx_scan.specs.Events.{path_of, meant_input, meant_events, IsInput, CanFollow}
+use Rattle.plcx_scan.specs.Events.{Event, Scan, Warm, Cold, path_of, meant_input, meant_events, IsInput, CanFollow}
 use Rattle.plcx_scan.proofs.Headers.{contains_at}
 
 input_meant : (leaves : List Leaf) (i : Input) → IsInput leaves i → run.IsInput (all_meant leaves) (meant_input leaves i)

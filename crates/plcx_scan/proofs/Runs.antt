@@ -15,9 +15,8 @@ use Rattle.plcx_meaning.specs.Traces.{Line, line, shown_values, values_at, lines
 use Rattle.plcx_state.specs.declared.layout.Leaf.{Leaf}
 use Rattle.plcx_state.specs.Layouts.{all_meant}
 use Rattle.plcx_state.specs.Retains.{Pairwise, numbers, Agrees}
-use Rattle.plcx_scan.specs.declared.event.Event.{Event}
 use Rattle.plcx_scan.specs.declared.row.TraceRow.{TraceRow}
-use Rattle.plcx_scan.specs.Events.{meant_event, meant_events, CanBeNext, CanFollow, last_after, last_at_end}
+use Rattle.plcx_scan.specs.Events.{Event, meant_event, meant_events, CanBeNext, CanFollow, last_after, last_at_end}
 use Rattle.plcx_scan.specs.Sides.{Tells, Brings, BringsAll, BringsSome, Shows, HasLine, HasLines, HasTypeOf, told}
 use Rattle.plcx_scan.specs.Rows.{shown_leaves, shown_numbers, picked, meant_line, meant_lines, IsRowOf}
 use Rattle.plcx_scan.specs.declared.side.Outcome.{Outcome}

@@ -8,9 +8,13 @@ use Rattle.plcx_meaning.specs.Layout as layout
 use Rattle.plcx_meaning.specs.Run as meant
 use Rattle.plcx_state.specs.declared.layout.Leaf.{Leaf}
 use Rattle.plcx_state.specs.Layouts.{meant_path}
-use Rattle.plcx_scan.specs.declared.event.Event.{Event}
-use Rattle.plcx_scan.specs.declared.event.Event.TheVariants.{Scan, Warm, Cold}
 use Rattle.plcx_scan.specs.declared.event.Input.{Input}
+
+-- a scan at a time in milliseconds with its inputs in order, or a restart
+pub data Event : Type 0 where
+  Scan : ℤ → List Input → Event
+  Warm : Event
+  Cold : Event
 
 -- the path of a leaf that was looked up, the empty one where there is none
 abbrev pub path_of : Option Leaf → Path

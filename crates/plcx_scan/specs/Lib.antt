@@ -5,4 +5,6 @@ pub mod Texts
 pub mod Files
 pub mod Errors
 -- serve proofs alone
+pub mod Entries
+pub mod Readers
 pub mod ReadFiles

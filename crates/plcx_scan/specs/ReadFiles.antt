@@ -18,10 +18,10 @@ use Rattle.plcx_state.specs.Tables.{printed_at, IsTold}
 use Rattle.plcx_scan.specs.declared.reading.EventError.{EventError}
 use Rattle.plcx_scan.specs.declared.reading.EventError.TheVariants.{Row, NoMemory}
 use Rattle.plcx_scan.specs.declared.column.Column.{Column}
-use Rattle.plcx_scan.specs.declared.event.Event.{Event}
-use Rattle.plcx_scan.specs.declared.event.Event.TheVariants.{Scan, Warm, Cold}
 use Rattle.plcx_scan.specs.declared.event.Input.{Input}
-use Rattle.plcx_scan.specs.Events.{last_after}
+use Rattle.plcx_scan.specs.declared.event.Entry.{Entry}
+use Rattle.plcx_scan.specs.Events.{Event, Scan, Warm, Cold, last_after, last_at_end}
+use Rattle.plcx_scan.specs.Entries.{count_all, events_of}
 use Rattle.plcx_scan.specs.Files.{Record, max_time_digits}
 
 -- the field at a place, which is empty past the end
@@ -147,6 +147,13 @@ pub record IsColumnOf (leaves : List Leaf) (column : Column) (leaf : Meant) : Ty
 -- and so are columns, in order
 abbrev pub AreColumns : List Leaf → List Column → List Meant → Type 0
 AreColumns leaves columns cs = Pairwise (IsColumnOf leaves) columns cs
+
+-- of these records those that are not left were read as these events, and the last scan among them was at this time
+pub record AreRead (columns : List Column) (rows left : List Record) (entries : List Entry) (inputs : List Input) (last : ℕ) : Type 0 where
+  pub counted : count_all entries ≡ length inputs
+  pub left_are : left ≡ drop (length entries) rows
+  pub read : rows_events columns 0 (take (length entries) rows) ≡ Some (events_of entries inputs)
+  pub last_is : last ≡ last_at_end 0 (events_of entries inputs)
 
 -- the records before it are read as events, and with it they are not
 pub record IsUnread (columns : List Column) (rows : List Record) (place : ℕ) : Type 0 where

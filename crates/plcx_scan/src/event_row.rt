@@ -1,19 +1,18 @@
 //! The other records of an event file: scans and restarts.
-ghost use Rattle.std.specs.Prelude.{◌≡◌, ◌≤◌, ◌+◌, ◌++◌, true, Some, None, IfOk, IfSome, length, map, drop, option_map, if◌then◌else◌};
+ghost use Rattle.std.specs.Prelude.{◌≡◌, ◌≤◌, ◌+◌, ◌++◌, [], true, Some, None, IfOk, IfSome, length, map, drop, option_map, if◌then◌else◌};
 ghost use Rattle.std.specs.List.{list_all};
 ghost use Rattle.plcx_types.specs.Duration.{number};
 ghost use Rattle.plcx_types.specs.Limits.{max_event_time};
 ghost use Rattle.plcx_types.specs.Numeral.{is_digit};
+ghost use Rattle.plcx_scan.specs.Entries.{WasRead, count_of, event_of};
 ghost use Rattle.plcx_scan.specs.Files.{max_time_digits};
 ghost use Rattle.plcx_scan.specs.ReadFiles.{within_limit, time_of, field_inputs, inputs_of, scan_event, restart_event, row_event};
 
 use crate::column::Column;
-use crate::event::{Event, Input};
+use crate::event::{Entry, Input};
 use crate::record::Record;
 use plcx_types::limits::MAX_EVENT_TIME;
 use plcx_types::{NoMemory, read_value};
-use sqlite_items::Items;
-use std::alloc::Global;
 
 const MAX_TIME_DIGITS: usize = 19;
 
@@ -75,34 +74,30 @@ fn push_input(inputs: &mut Vec<Input>, column: Column, field: &[u8]) -> Result<b
     Ok(true)
 }
 
-fn read_inputs(
-    alloc: Global,
-    columns: &[Column],
-    row: &Record,
-) -> Result<Option<Items<Input>>, NoMemory>
+/// Takes the inputs of the fields of a scan; not where one has something that is no value of its leaf.
+fn read_inputs(inputs: &mut Vec<Input>, columns: &[Column], row: &Record) -> Result<bool, NoMemory>
     requires { length row.now ≡ length columns.now + 2 }
-    ensures { IfOk result (λ inputs. inputs ≡ inputs_of columns.now (drop 2 row.now)) }
+    ensures { IfOk result (λ went. option_map (λ some. inputs.old.items ++ some) (inputs_of columns.now (drop 2 row.now)) ≡ (if went then Some inputs.new.items else None)) }
 {
-    let mut inputs = Vec::new(alloc);
     for i in 0..columns.len() {
-        let went = push_input(&mut inputs, columns[i], row.field(i + 2))?;
+        let went = push_input(inputs, columns[i], row.field(i + 2))?;
         if !went {
-            return Ok(None);
+            return Ok(false);
         }
     }
-    Ok(Some(Items::from_vec(inputs)))
+    Ok(true)
 }
 
 /// A scan, if its time is not before the last one, and each field is empty or a value.
 #[tactic(auto, unfolding(crate::specs::ReadFiles::scan_event))]
 fn read_scan(
-    alloc: Global,
+    inputs: &mut Vec<Input>,
     columns: &[Column],
     last: u64,
     row: &Record,
-) -> Result<Option<Event>, NoMemory>
+) -> Result<Option<Entry>, NoMemory>
     requires { length row.now ≡ length columns.now + 2 }
-    ensures { IfOk result (λ event. event ≡ scan_event columns.now last row.now) }
+    ensures { IfOk result (WasRead (scan_event columns.now last row.now) inputs.old.items inputs.new.items) }
 {
     let Some(time) = read_time(row.field(1)) else {
         return Ok(None);
@@ -110,46 +105,48 @@ fn read_scan(
     if time < last {
         return Ok(None);
     }
-    let Some(inputs) = read_inputs(alloc, columns, row)? else {
+    let before = inputs.len();
+    if !read_inputs(inputs, columns, row)? {
         return Ok(None);
-    };
-    Ok(Some(Event::Scan {
+    }
+    Ok(Some(Entry::Scan {
         time: time as i64,
-        inputs,
+        count: inputs.len() - before,
     }))
 }
 
 /// A restart, if there is nothing behind its word.
 #[tactic(auto, unfolding(crate::specs::ReadFiles::restart_event))]
-fn read_restart(row: &Record) -> Option<Event>
-    ensures { result ≡ restart_event row.now }
+fn read_restart(row: &Record) -> Option<Entry>
+    ensures value { option_map (λ e. event_of e []) result ≡ restart_event row.now }
+    ensures alone { IfSome result (λ e. count_of e ≡ 0) }
 {
     if !row.is_word_alone() {
         None
     } else if row.has_word(0, b"warm") {
-        Some(Event::Warm)
+        Some(Entry::Warm)
     } else if row.has_word(0, b"cold") {
-        Some(Event::Cold)
+        Some(Entry::Cold)
     } else {
         None
     }
 }
 
-/// The event that a record stands for, where the last scan was at this time.
+/// The event that a record stands for, where the last scan was at this time. Its inputs come behind the others.
 #[tactic(auto, unfolding(crate::specs::ReadFiles::row_event))]
 pub(crate) fn read_row(
-    alloc: Global,
+    inputs: &mut Vec<Input>,
     columns: &[Column],
     last: u64,
     row: &Record,
-) -> Result<Option<Event>, NoMemory>
-    ensures { IfOk result (λ event. event ≡ row_event columns.now last row.now) }
+) -> Result<Option<Entry>, NoMemory>
+    ensures { IfOk result (WasRead (row_event columns.now last row.now) inputs.old.items inputs.new.items) }
 {
     if row.len() != columns.len() + 2 {
         return Ok(None);
     }
     if row.has_word(0, b"scan") {
-        return read_scan(alloc, columns, last, row);
+        return read_scan(inputs, columns, last, row);
     }
     Ok(read_restart(row))
 }

@@ -5,8 +5,7 @@ ghost use Rattle.plcx_meaning.specs.Layout.{Leaf as Meant};
 ghost use Rattle.plcx_meaning.specs.Run as run;
 ghost use Rattle.plcx_state.specs.declared.layout.Leaf.{Leaf};
 ghost use Rattle.plcx_state.specs.Layouts.{all_meant};
-ghost use Rattle.plcx_scan.specs.declared.event.Event.{Event};
-ghost use Rattle.plcx_scan.specs.Events.{meant_events, CanFollow};
+ghost use Rattle.plcx_scan.specs.Events.{Event, meant_events, CanFollow};
 ghost use Rattle.plcx_scan.specs.Files.{Record, records_of, StandsForEvents, IsFirstWrong};
 
 /// Events that may come one after another are such events of the meaning.

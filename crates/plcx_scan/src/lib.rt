@@ -17,7 +17,7 @@ mod running;
 mod side;
 mod tracing;
 
-pub use event::{Event, Input};
+pub use event::{Events, Input};
 pub use law::{events_are_meant, one_list_of_events, one_wrong_record};
 pub use open::OpenError;
 pub use reading::{EventError, read_events};

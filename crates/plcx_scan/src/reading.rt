@@ -3,15 +3,15 @@ ghost use Rattle.std.specs.Prelude.{◌≡◌, ◌<◌, ◌≤◌, ◌^◌, Some
 ghost use Rattle.plcx_types.specs.Lists.{Each};
 ghost use Rattle.plcx_state.specs.Layouts.{all_meant};
 ghost use Rattle.plcx_state.specs.Tables.{HasPlainNames};
-ghost use Rattle.plcx_scan.specs.Events.{meant_events, CanFollow, last_after};
+ghost use Rattle.plcx_scan.specs.Events.{meant_events, CanFollow};
 ghost use Rattle.plcx_scan.specs.Files.{RecordsStandFor, StandsForEvents};
 ghost use Rattle.plcx_scan.specs.ReadFiles.{rows_events, CanTell, WhyNotRows};
 ghost use Rattle.plcx_scan.specs.Errors.{WhyNotRecords, WhyNotEvents};
 
 use crate::column::{Column, columns_of};
-use crate::event::Event;
+use crate::event::Events;
 use crate::event_row::read_row;
-use crate::record::{Record, records};
+use crate::record::{Record, Records};
 use plcx_state::{Layout, PathTable};
 use plcx_types::NoMemory;
 use std::alloc::{AllocError, AllocFailed, Global};
@@ -53,59 +53,61 @@ impl<T: Drop> From<AllocFailed<T>> for EventError {
     }
 }
 
-fn last_after(last: u64, event: &Event) -> u64
-    ensures { result ≡ last_after last event.now }
-{
-    match event {
-        Event::Scan { time, .. } => time.unsigned_abs(),
-        Event::Warm | Event::Cold => last,
-    }
-}
-
 /// The events that the records behind a header stand for.
-fn read_rows(alloc: Global, columns: &[Column], rows: &[Record]) -> Result<Vec<Event>, EventError>
-    ensures ok { IfOk result (λ events. rows_events columns.now 0 rows.now ≡ Some events.items) }
-    ensures err { IfErr result (WhyNotRows columns.now rows.now) }
+fn read_rows(
+    alloc: Global,
+    columns: &[Column],
+    records: &mut Records<'_>,
+    row: &mut Record,
+) -> Result<Events, EventError>
+    ensures ok { IfOk result (λ events. rows_events columns.now 0 records.old ≡ Some events) }
+    ensures err { IfErr result (WhyNotRows columns.now records.old) }
 {
-    let mut events = Vec::new(alloc);
+    let mut entries = Vec::new(alloc);
+    let mut inputs = Vec::new(alloc);
     let mut last = 0;
-    for place in 0..rows.len() {
-        let Some(event) = read_row(alloc, columns, last, &rows[place])? else {
+    'rows: while records.read(row)? {
+        let Some(entry) = read_row(&mut inputs, columns, last, row)? else {
             return Err(EventError::Row {
-                row: place as u64 + 2,
+                row: entries.len() as u64 + 2,
             });
         };
-        last = last_after(last, &event);
-        events.push(event)?;
+        last = entry.last_after(last);
+        entries.push(entry)?;
     }
-    Ok(events)
+    Ok(Events { entries, inputs })
 }
 
-fn read_records(alloc: Global, table: &PathTable, rows: &[Record]) -> Result<Vec<Event>, EventError>
+fn read_records(
+    alloc: Global,
+    table: &PathTable,
+    records: &mut Records<'_>,
+) -> Result<Events, EventError>
     requires few { length table.now < 2 ^ 32 }
     requires tells { CanTell table.now }
-    ensures some { OnOk result (1 ≤ length rows.now) }
-    ensures ok { IfOk result (λ events. RecordsStandFor (all_meant table.now) rows.now (meant_events table.now events.items)) }
-    ensures follow { IfOk result (λ events. CanFollow table.now 0 events.items) }
-    ensures err { IfErr result (WhyNotRecords (all_meant table.now) rows.now) }
+    ensures some { OnOk result (1 ≤ length records.old) }
+    ensures ok { IfOk result (λ events. RecordsStandFor (all_meant table.now) records.old (meant_events table.now events)) }
+    ensures follow { IfOk result (λ events. CanFollow table.now 0 events) }
+    ensures err { IfErr result (WhyNotRecords (all_meant table.now) records.old) }
 {
-    let Some((header, rest)) = rows.split_first() else {
+    let mut row = Record::new(alloc);
+    if !records.read(&mut row)? {
+        return Err(EventError::Row { row: 1 });
+    }
+    let Some(columns) = columns_of(alloc, table, &row)? else {
         return Err(EventError::Row { row: 1 });
     };
-    let Some(columns) = columns_of(alloc, table, header)? else {
-        return Err(EventError::Row { row: 1 });
-    };
-    Ok(read_rows(alloc, &columns, rest)?)
+    Ok(read_rows(alloc, &columns, records, &mut row)?)
 }
 
 /// The events that a file stands for, for a program with this layout.
-pub fn read_events(alloc: Global, layout: &Layout, bytes: &[u8]) -> Result<Vec<Event>, EventError>
-    ensures ok { IfOk result (λ events. StandsForEvents (all_meant layout.now.leaves) bytes.now (meant_events layout.now.leaves events.items)) }
-    ensures follow { IfOk result (λ events. CanFollow layout.now.leaves 0 events.items) }
+pub fn read_events(alloc: Global, layout: &Layout, bytes: &[u8]) -> Result<Events, EventError>
+    ensures ok { IfOk result (λ events. StandsForEvents (all_meant layout.now.leaves) bytes.now (meant_events layout.now.leaves events)) }
+    ensures follow { IfOk result (λ events. CanFollow layout.now.leaves 0 events) }
     ensures plain { OnOk result (Each HasPlainNames layout.now.leaves) }
     ensures err { IfErr result (WhyNotEvents (all_meant layout.now.leaves) bytes.now) }
 {
     let table = PathTable::of(alloc, layout)?;
-    let rows = records(alloc, bytes)?;
-    Ok(read_records(alloc, &table, &rows)?)
+    let mut records = Records::of(alloc, bytes);
+    Ok(read_records(alloc, &table, &mut records)?)
 }

@@ -1,11 +1,10 @@
 //! The records of a file, by the crate `csv`.
-ghost use Rattle.std.specs.Prelude.{◌≡◌, IfOk, length};
+ghost use Rattle.std.specs.Prelude.{◌≡◌, ◌∷◌, [], IfOk, length, if◌then◌else◌};
 ghost use Rattle.std.specs.Str.{bytes_eq};
-ghost use Rattle.csv.specs.Records.{fields_of};
 ghost use Rattle.plcx_scan.specs.Files.{records_of};
 ghost use Rattle.plcx_scan.specs.ReadFiles.{field, has_word, is_word_alone};
 
-use csv::{ByteRecord, ReaderBuilder};
+use csv::{ByteRecord, Reader, ReaderBuilder};
 use plcx_types::NoMemory;
 use std::alloc::Global;
 use std::marker::Model;
@@ -32,10 +31,11 @@ fn is_word(field: &[u8], word: &[u8]) -> bool
 }
 
 impl Record {
-    fn of(row: ByteRecord) -> Record
-        ensures { result ≡ fields_of row }
-    {
-        Record { row }
+    /// A record into which others are read.
+    pub(crate) fn new(alloc: Global) -> Record {
+        Record {
+            row: ByteRecord::new(alloc),
+        }
     }
 
     /// How many fields it has.
@@ -75,21 +75,57 @@ impl Record {
     }
 }
 
-/// The records of a file: commas, double quotes, no trimming, any lengths, and none of them apart as a header.
-pub(crate) fn records(alloc: Global, bytes: &[u8]) -> Result<Vec<Record>, NoMemory>
-    ensures { IfOk result (λ rows. rows.items ≡ records_of bytes.now) }
-{
-    let reader = ReaderBuilder::new()
-        .has_headers(false)
-        .flexible(true)
-        .from_reader(alloc, bytes);
-    let mut rows = Vec::new(alloc);
-    for row in reader.into_byte_records() {
-        // Nothing but want of memory is left: a slice can be read, and lengths may differ.
-        let Ok(row) = row else {
-            return Err(NoMemory);
-        };
-        rows.push(Record::of(row))?;
+/// The records of a file that are left to read, one after another into the same record.
+#[derive(Drop)]
+pub(crate) struct Records<'a> {
+    reader: Reader<&'a [u8]>,
+    ended: bool,
+}
+
+impl<'a> Model for Records<'a> {
+    ghost use Rattle.std.specs.Prelude.{◌≡◌, ℕ, List, [], false, if◌then◌else◌};
+    ghost use Rattle.plcx_scan.specs.Readers.{IsReading, left_of};
+
+    ghost Value = { List (List (List ℕ)) };
+
+    ghost view = { λ r. if r.ended then [] else left_of r.reader };
+
+    ghost invariant = { λ r. r.ended ≡ false → IsReading r.reader };
+}
+
+impl<'a> Records<'a> {
+    /// The records of a file: commas, double quotes, no trimming, any lengths, and none of them apart as a header.
+    pub(crate) fn of(alloc: Global, bytes: &'a [u8]) -> Records<'a>
+        ensures { result ≡ records_of bytes.now }
+    {
+        let reader = ReaderBuilder::new()
+            .has_headers(false)
+            .flexible(true)
+            .from_reader(alloc, bytes);
+        Records {
+            reader,
+            ended: false,
+        }
     }
-    Ok(rows)
+
+    /// Reads the next record, if there is one.
+    pub(crate) fn read(&mut self, row: &mut Record) -> Result<bool, NoMemory>
+        ensures { IfOk result (λ found. self.old ≡ (if found then row.new ∷ self.new else [])) }
+    {
+        if self.ended {
+            return Ok(false);
+        }
+        match self.reader.read_byte_record(&mut row.row) {
+            Ok(true) => Ok(true),
+            Ok(false) => {
+                self.ended = true;
+                Ok(false)
+            }
+            // Nothing but want of memory is left: a slice can be read, and lengths may differ.
+            Err(_) => {
+                self.ended = true;
+                Err(NoMemory)
+            }
+        }
+    }
 }

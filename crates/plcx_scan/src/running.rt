@@ -3,10 +3,11 @@ ghost use Rattle.std.specs.Prelude.{◌≡◌, IfOk, OnOk, OnErr};
 ghost use Rattle.plcx_types.specs.Lists.{Each};
 ghost use Rattle.plcx_state.specs.Layouts.{all_meant};
 ghost use Rattle.plcx_scan.specs.Events.{meant_event, meant_events, CanBeNext, CanFollow, last_after, last_at_end};
+ghost use Rattle.plcx_scan.specs.Entries.{event_of};
 ghost use Rattle.plcx_scan.specs.Sides.{Tells, Brings, BringsAll, BringsSome, HasLine, HasLines};
 ghost use Rattle.plcx_scan.specs.Rows.{shown_numbers, meant_line, meant_lines, IsRowOf};
 
-use crate::event::Event;
+use crate::event::{Entry, Events, Input};
 use crate::row::{Shown, Trace, TraceRow};
 use crate::side::{Outcome, Side};
 use plcx_types::NoMemory;
@@ -14,21 +15,21 @@ use sqlite_items::Items;
 use std::alloc::Global;
 
 /// One event, a scan with the whole budget of turns.
-fn step<S: Side>(side: &mut S, event: &Event, turns: u64) -> Outcome
-    requires { CanBeNext (S.laid side.old).leaves (S.last side.old) event.now }
-    ensures outcome { Tells (S.machine side.old) turns (meant_event (S.laid side.old).leaves event.now) (S.stands_for side.old) result }
-    ensures meaning { Brings (S.machine side.old) turns (meant_event (S.laid side.old).leaves event.now) (S.stands_for side.old) (S.stands_for side.new) }
+fn step<S: Side>(side: &mut S, entry: Entry, inputs: &[Input], turns: u64) -> Outcome
+    requires { CanBeNext (S.laid side.old).leaves (S.last side.old) (event_of entry inputs.now) }
+    ensures outcome { Tells (S.machine side.old) turns (meant_event (S.laid side.old).leaves (event_of entry inputs.now)) (S.stands_for side.old) result }
+    ensures meaning { Brings (S.machine side.old) turns (meant_event (S.laid side.old).leaves (event_of entry inputs.now)) (S.stands_for side.old) (S.stands_for side.new) }
     ensures machine { S.machine side.new ≡ S.machine side.old }
     ensures laid { S.laid side.new ≡ S.laid side.old }
-    ensures time { S.last side.new ≡ last_after (S.last side.old) event.now }
+    ensures time { S.last side.new ≡ last_after (S.last side.old) (event_of entry inputs.now) }
 {
-    match event {
-        Event::Scan { time, inputs } => side.scan(*time, inputs.as_slice(), turns),
-        Event::Warm => {
+    match entry {
+        Entry::Scan { time, count: _ } => side.scan(time, inputs, turns),
+        Entry::Warm => {
             side.warm();
             Outcome::Restarted
         }
-        Event::Cold => {
+        Entry::Cold => {
             side.cold();
             Outcome::Restarted
         }
@@ -40,20 +41,21 @@ fn row_after<S: Side>(
     alloc: Global,
     side: &mut S,
     shown: &Shown,
-    event: &Event,
+    entry: Entry,
+    inputs: &[Input],
     turns: u64,
 ) -> Result<TraceRow, NoMemory>
-    requires event { CanBeNext (S.laid side.old).leaves (S.last side.old) event.now }
+    requires event { CanBeNext (S.laid side.old).leaves (S.last side.old) (event_of entry inputs.now) }
     requires shown { shown.now ≡ shown_numbers (S.laid side.old).leaves }
     requires layout { all_meant (S.laid side.old).leaves ≡ (S.machine side.old).layout }
-    ensures line { IfOk result (λ row. HasLine (S.machine side.old) turns (meant_event (S.laid side.old).leaves event.now) (S.stands_for side.old) (meant_line row)) }
+    ensures line { IfOk result (λ row. HasLine (S.machine side.old) turns (meant_event (S.laid side.old).leaves (event_of entry inputs.now)) (S.stands_for side.old) (meant_line row)) }
     ensures row { IfOk result (IsRowOf (S.laid side.old).leaves) }
-    ensures meaning { Brings (S.machine side.old) turns (meant_event (S.laid side.old).leaves event.now) (S.stands_for side.old) (S.stands_for side.new) }
+    ensures meaning { Brings (S.machine side.old) turns (meant_event (S.laid side.old).leaves (event_of entry inputs.now)) (S.stands_for side.old) (S.stands_for side.new) }
     ensures machine { S.machine side.new ≡ S.machine side.old }
     ensures laid { S.laid side.new ≡ S.laid side.old }
-    ensures time { S.last side.new ≡ last_after (S.last side.old) event.now }
+    ensures time { S.last side.new ≡ last_after (S.last side.old) (event_of entry inputs.now) }
 {
-    let outcome = step(side, event, turns);
+    let outcome = step(side, entry, inputs, turns);
     Ok(shown.row(alloc, outcome, side.values())?)
 }
 
@@ -61,7 +63,7 @@ fn row_after<S: Side>(
 pub fn run<S: Side>(
     alloc: Global,
     side: &mut S,
-    events: &[Event],
+    events: &Events,
     turns: u64,
 ) -> Result<Trace, NoMemory>
     requires { CanFollow (S.laid side.old).leaves (S.last side.old) events.now }
@@ -75,8 +77,11 @@ pub fn run<S: Side>(
 {
     let shown = Shown::of(alloc, side.layout())?;
     let mut rows = Vec::new(alloc);
-    for event in events {
-        let row = row_after(alloc, side, &shown, event, turns)?;
+    let mut rest = events.inputs.as_slice();
+    for entry in &events.entries {
+        let (inputs, others) = rest.split_at(entry.count());
+        rest = others;
+        let row = row_after(alloc, side, &shown, *entry, inputs, turns)?;
         rows.push(row)?;
     }
     Ok(Trace {

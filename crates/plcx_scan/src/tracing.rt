@@ -10,7 +10,7 @@ ghost use Rattle.plcx_scan.specs.Sides.{told, BringsAll, BringsSome};
 ghost use Rattle.plcx_scan.specs.Rows.{shown_leaves};
 ghost use Rattle.plcx_scan.specs.Texts.{word, behind_comma, values_text, row_text, rows_text, layout_header, trace_text, HasTrace};
 
-use crate::event::Event;
+use crate::event::Events;
 use crate::row::{Trace, TraceRow};
 use crate::running::run;
 use crate::side::{Outcome, Side};
@@ -118,7 +118,7 @@ pub fn trace_text(
 pub fn run_to_text<S: Side>(
     alloc: Global,
     side: &mut S,
-    events: &[Event],
+    events: &Events,
     turns: u64,
 ) -> Result<Vec<u8>, NoMemory>
     requires { CanFollow (S.laid side.old).leaves (S.last side.old) events.now }

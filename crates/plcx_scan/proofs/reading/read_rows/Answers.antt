@@ -1,24 +1,25 @@
-use Rattle.std.proofs.Common.{◌∙◌, ap, refl, sym}
-use Rattle.plcx_scan.specs.Events.{last_at_end, last_after}
-use Rattle.plcx_scan.proofs.EventFiles.{read_more, read_none}
-use Rattle.plcx_scan.proofs.Runs.{last_push}
+use Rattle.std.proofs.Common.{◌≡◌, ◌∷◌, [], length, arith}
+use Rattle.plcx_scan.proofs.EventFiles.{read_all, read_more, read_none}
 use Rattle.plcx_scan.proofs.reading.read_rows.Goals as goal
+
+pub rows-preserved : goal.rows-preserved
+rows-preserved c =
+    let next : c.rows.records ≡ c.read.new.row ∷ c.read.new.self = rw c.if-branch.true at c.in_ok-read.ensures in
+    let read = rw c.in-Some.is at c.in_ok-entry.ensures in
+    rw c.in_ok-push.ensures.items
+    (read_more c.args.columns.now c.args.records.now c.rows.records c.rows.entries.items c.rows.inputs.items c.rows.last c.rows.invariant c.read.new.row c.read.new.self next
+    c.read_row.new.inputs.items c.in-Some.entry c.last_after-last.result read c.last_after-last.ensures)
 
 pub returns-in_default-clause-err : goal.returns-in_default-clause-err
 returns-in_default-clause-err c =
-    let inv = c.loop-place.invariant in (
-      c.loop-place.place,
-      refl,
-      read_none c.args.columns.now c.args.rows.now c.loop-place.place c.index-rows-place.result c.loop-place.events.items c.loop-place.last c.loop-place-test.true c.index-rows-place.is inv.read inv.last
-          (sym c.in_default.is ∙ c.in_ok-event.ensures),
+    let next : c.rows.records ≡ c.read.new.row ∷ c.read.new.self = rw c.if-branch.true at c.in_ok-read.ensures in
+    let none = rw c.in_default.is at c.in_ok-entry.ensures in (
+      length c.rows.entries.items,
+      omega (arith, c.len.ensures, c.rows.entries.ok.0),
+      read_none c.args.columns.now c.args.records.now c.rows.records c.rows.entries.items c.rows.inputs.items c.rows.last c.rows.invariant c.read.new.row c.read.new.self next none,
     )
 
-pub loop-place-preserved : goal.loop-place-preserved
-loop-place-preserved c =
-    let inv = c.loop-place.invariant in
-    let pushed = c.in_ok-push.ensures.items in
-    record {
-      read = read_more c.args.columns.now c.args.rows.now c.loop-place.place c.index-rows-place.result c.loop-place.events.items c.push.new.self.items c.in-Some.event c.loop-place.last c.loop-place-test.true c.index-rows-place.is
-          inv.read inv.last (sym c.in-Some.is ∙ c.in_ok-event.ensures) pushed;
-      last = c.last_after-last.ensures ∙ ap (λ n. last_after n c.in-Some.event) inv.last ∙ sym (last_push 0 c.loop-place.events.items c.in-Some.event) ∙ ap (last_at_end 0) (sym pushed);
-    }
+pub returns-clause-ok : goal.returns-clause-ok
+returns-clause-ok c =
+    let none : c.rows.records ≡ [] = rw c.if-branch.false at c.in_ok-read.ensures in
+    read_all c.args.columns.now c.args.records.now c.rows.records c.rows.entries.items c.rows.inputs.items c.rows.last c.rows.invariant none

@@ -11,10 +11,10 @@ returns-in_ok-run_to_text-in-Ok-clause-ok g c = λ told loaded.
     let own = ap (λ (l : Laid). l.leaves) c.layout.ensures.laid in
     let stands = rw (own, c.layout.ensures.meaning) at c.in-Ok.ensures.ok in
     record {
-      events = meant_events leaves c.in-Ok.events.items;
+      events = meant_events leaves c.in-Ok.events;
       tells = record { bytes = c.args.bytes.now; loaded = loaded; stands = stands };
-      trace = rw c.deref.ensures.value at c.in_ok-run_to_text-in-Ok.ensures.text;
-      brings = rw c.deref.ensures.value at c.in_ok-run_to_text-in-Ok.ensures.meaning;
+      trace = c.in_ok-run_to_text-in-Ok.ensures.text;
+      brings = c.in_ok-run_to_text-in-Ok.ensures.meaning;
     }
 
 pub returns-in-Err-Row-clause-err : goal.returns-in-Err-Row-clause-err
@@ -29,10 +29,10 @@ returns-in_err-run_to_text-in-Ok-clause-stops g c =
     let own = ap (λ (l : Laid). l.leaves) c.layout.ensures.laid in
     let stands = rw (own, c.layout.ensures.meaning) at c.in-Ok.ensures.ok in
     let same : c.from_residual.result ≡ Err NoMemory = search rules in
-    let stopped = rw c.deref.ensures.value at c.in_err-run_to_text-in-Ok.ensures.stopped in
+    let stopped = c.in_err-run_to_text-in-Ok.ensures.stopped in
     rw same (λ told loaded.
     inr (record {
-      events = meant_events leaves c.in-Ok.events.items;
+      events = meant_events leaves c.in-Ok.events;
       tells = record { bytes = c.args.bytes.now; loaded = loaded; stands = stands };
       brings = stopped;
     }))
