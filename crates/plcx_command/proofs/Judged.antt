@@ -13,13 +13,8 @@ use Rattle.plcx_model.specs.Sound.{Sound}
 use Rattle.plcx_profile.specs.Profile.{IsElement, ProfileVerdict, StandsForProject, StandsForRoot, RefusesRoot, project_in}
 use Rattle.plcx_profile.specs.declared.error.ProfileError.TheVariants as error
 use Rattle.plcx_check.specs.declared.checked.Checked.{Checked}
-use Rattle.plcx_view.specs.Diagrams.{diagrams_of}
-use Rattle.plcx_command.specs.Answer.{Answer, output, broken_answer, ok_answer}
-use Rattle.plcx_command.specs.Compiled.{IsTextOf}
 use Rattle.plcx_command.specs.JudgementOf.{IsChecked, IsJudgement, IsFault, IsJudgementOfProject, IsJudgementOfElement, OfProfile, OfProject, IsJudgementOfTree}
-use Rattle.plcx_command.specs.Says.{Judged, checked, compiled}
-use Rattle.plcx_command.specs.Verdict as verdict
-use Rattle.plcx_command.specs.Verdict.{Breaks, Keeps, InTree, InProfile, InProject, Refused, Passed}
+use Rattle.plcx_command.specs.Verdict.{Breaks, Keeps, InTree, InProfile, InProject}
 use Rattle.plcx_command.specs.declared.judging.Judgement.{Judgement}
 use Rattle.plcx_command.specs.declared.judging.Judgement.TheVariants.{Accepted, Broken}
 
@@ -54,23 +49,3 @@ judged bytes tree root j is t h = judged-element bytes root j t (rw (is, node.ou
 pub faulted : (bytes : List ℕ) (e : XmlError) (j : Judgement) → Fails bytes e → IsFault e j → IsJudgement bytes j
 faulted bytes e (Accepted c) f h = absurd h
 faulted bytes e (Broken b) f h = InTree e f h
-
--- what is answered to bytes that are refused, and to such that are accepted
-pub refused : (bytes : List ℕ) (next : Answer → Type 0) (b : model.Broken) (a : Answer) → Breaks bytes b → a ≡ broken_answer b → Judged bytes next a
-refused bytes next b a h e = record { verdict = verdict.Broken b; judged = Refused h; answers = e }
-
-pub accepted : (bytes : List ℕ) (project : model'.Project) (a : Answer) → Keeps bytes project → a ≡ ok_answer → checked bytes a
-accepted bytes project a h e = record { verdict = verdict.Accepted; judged = Passed project h; answers = e }
-
-pub answered : (bytes : List ℕ) (c : Checked) (text : List ℕ) (a : Answer) → Keeps bytes c.project × IsChecked c
-    → IsTextOf (diagrams_of c.project c.links c.types c.plan) text → a ≡ output text
-    → compiled bytes a
-answered bytes c text a (keeps, is) t e = record {
-  verdict = verdict.Accepted;
-  judged = Passed c.project keeps;
-  answers = record {
-    text = text;
-    compiled = record { project = c.project; keeps = keeps; links = c.links; types = c.types; plan = c.plan; checked = is; text_of = t };
-    answer = e;
-  };
-}

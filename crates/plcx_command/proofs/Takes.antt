@@ -1,6 +1,6 @@
 -- A file that was read and judged, and what follows on it.
-use Rattle.std.proofs.Common.{◌≡◌, ◌≢◌, ◌≤◌, ◌+◌, ◌-◌, ◌^◌, ℕ, List, min, length, refl, sym, ap, subst, arith, Ok, Err}
-use Rattle.std.specs.Prelude.{Option, Result, MatchResult, IfOk, OnOk}
+use Rattle.std.proofs.Common.{◌≡◌, ◌≢◌, ◌≤◌, ◌+◌, ◌-◌, ◌^◌, ℕ, List, [], min, length, refl, sym, ap, subst, arith, Ok, Err}
+use Rattle.std.specs.Prelude.{Option, Result, MatchResult, IfOk, OnOk, ◌⊎◌, inl, inr}
 use Rattle.std.proofs.Math.Path.{fun_ext}
 use Rattle.plcx_io.specs.Counts.{Rose, raised}
 use Rattle.plcx_io.specs.Told.{Tells}
@@ -16,15 +16,17 @@ use Rattle.plcx_traced.specs.declared.error.RunError.{RunError}
 use Rattle.plcx_traced.specs.declared.error.RunError.TheVariants as error
 use Rattle.plcx_traced.proofs.Made.{not_wider}
 use Rattle.plcx_simulate.specs.Programs.{programs_of, diagrams_in}
-use Rattle.plcx_command.specs.Answer.{Answer, output, broken_answer}
+use Rattle.plcx_simulate.specs.Watching.{Watches, HearsFront}
+use Rattle.plcx_command.specs.Answer.{Answer, output, refusal, broken_answer, memory_answer}
 use Rattle.plcx_command.specs.Compiled.{HasDiagrams, IsTextOf}
-use Rattle.plcx_command.specs.Hears.{HearsRun}
+use Rattle.plcx_command.specs.Hears.{HasFile, IsHeardInPart, HearsRun}
 use Rattle.plcx_command.specs.ReplyOf.{answer_of}
 use Rattle.plcx_command.specs.Says.{AfterRead, fault, too_long, whole, Judged, Answers, IsText, long_answer}
-use Rattle.plcx_command.specs.Simulated.{AnswersRun, IsSimulated, answer_to}
+use Rattle.plcx_command.specs.Simulated.{AnswersRun, IsSimulated, answer_to, refused_as, error_line}
 use Rattle.plcx_command.specs.Taken.{IsTaken, IsAccepted, IsTakenFrom}
 use Rattle.plcx_command.specs.Verdict as verdict
 use Rattle.plcx_command.specs.Verdict.{Verdict, Refused, Passed}
+use Rattle.plcx_command.specs.declared.reply.Reply.{Reply}
 use Rattle.plcx_command.specs.declared.deciding.Taken as taken
 use Rattle.plcx_command.specs.declared.deciding.Taken.TheVariants as taken'
 
@@ -59,6 +61,37 @@ diagrams_there told c file = record { project = c.project; keeps = file.keeps; l
 pub text_there : (told : Option (List ℕ)) (c : Checked) (file : IsAccepted told c) (text : List ℕ) (a : Answer)
     → IsTextOf (diagrams_of c.project c.links c.types c.plan) text → a ≡ output text → IsText file.bytes a
 text_there told c file text a t e = record { text = text; compiled = record { diagrams = diagrams_in c; has = diagrams_there told c file; text_of = t }; answer = e }
+
+-- what is heard of a run of an accepted file that leaves no trace
+module _ (told : List ℕ → Option (List ℕ)) (Became : List Heard → Type 0) (r : Run) (c : Checked) (file : IsAccepted (told r.file) c) where
+  has_file : HasFile told r (diagrams_in c)
+  has_file = record { bytes = file.bytes; short = file.short; tells = file.tells; has = diagrams_there (told r.file) c file }
+
+  in_part : Became [] ⊎ HearsFront told (diagrams_in c) r Became → Became [] ⊎ IsHeardInPart told r Became
+  in_part (inl h) = inl h
+  in_part (inr h) = inr (record { diagrams = diagrams_in c; file = has_file; heard = h })
+
+  refusal_heard : (e : RunError) (line : List ℕ) → Watches told (diagrams_in c) r Became (Err e) → HearsRun told Became r (refusal (refused_as e) line)
+  refusal_heard (error.NoProgram programs) line h = h
+  refusal_heard error.RetainedRead line h = h
+  refusal_heard (error.Line n) line h = h
+  refusal_heard error.EventsRead line h = h
+  refusal_heard (error.Row n) line h = h
+  refusal_heard error.NoMemory line h = in_part h
+
+  memory_heard : (e : RunError) → Watches told (diagrams_in c) r Became (Err e) → HearsRun told Became r memory_answer
+  memory_heard (error.NoProgram programs) h = inl h
+  memory_heard error.RetainedRead h = inl h
+  memory_heard (error.Line n) h = inl h
+  memory_heard error.EventsRead h = inl h
+  memory_heard (error.Row n) h = inl h
+  memory_heard error.NoMemory h = in_part h
+
+  pub error_heard : {M : Type 0} (e : RunError) → Watches told (diagrams_in c) r Became (Err e) → (res : Result Reply M)
+      → IfOk res (λ reply. answer_of reply ≡ refusal (refused_as e) (error_line r e))
+      → MatchResult res (λ reply. HearsRun told Became r (answer_of reply)) (λ _. HearsRun told Became r memory_answer)
+  error_heard e h (Ok reply) is = subst (HearsRun told Became r) (sym is) (refusal_heard e (error_line r e) h)
+  error_heard e h (Err m) is = memory_heard e h
 
 -- ---- over a desk that tells the same
 

@@ -8,5 +8,5 @@ returns-in-Accepted g c =
     let file = rw c.in-Accepted.is at c.in_ok-take_file.ensures.taken in
     IfOk-weaker c.accepted.result _ _ (λ reply e. accepted_over _ _ c.args.name.now _ c.in-Accepted.field-0 (answer_of reply) file e) c.accepted.ensures
 
-pub returns-in-Refused : goal.returns-in-Refused
-returns-in-Refused g c = refused_over _ _ c.args.name.now _ (answer_of c.in-Refused.reply) (rw c.in-Refused.is at c.in_ok-take_file.ensures.taken)
+pub returns : goal.returns
+returns g c = refused_over _ _ c.args.name.now _ (answer_of c.in-Refused.reply) (rw c.in-Refused.is at c.in_ok-take_file.ensures.taken)
