@@ -1,6 +1,6 @@
 -- A file that was read and judged, and what follows on it.
-use Rattle.std.proofs.Common.{◌≡◌, ◌≢◌, ◌≤◌, ◌+◌, ◌-◌, ◌^◌, ℕ, List, [], min, length, refl, sym, ap, subst, arith, Ok, Err}
-use Rattle.std.specs.Prelude.{Option, Result, MatchResult, IfOk, OnOk, ◌⊎◌, inl, inr}
+use Rattle.std.proofs.Common.{◌≡◌, ◌≢◌, ◌≤◌, ◌+◌, ◌-◌, ◌^◌, ℕ, List, [], min, length, refl, sym, ap, subst, arith, ◌⊎◌, inl, inr, Ok, Err}
+use Rattle.std.specs.Prelude.{Option, Result, MatchResult, IfOk, OnOk}
 use Rattle.std.proofs.Math.Path.{fun_ext}
 use Rattle.plcx_io.specs.Counts.{Rose, raised}
 use Rattle.plcx_io.specs.Told.{Tells}
