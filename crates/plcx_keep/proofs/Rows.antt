@@ -14,7 +14,7 @@ use Rattle.plcx_state.proofs.Eaches.{each_get}
 use Rattle.plcx_keep.specs.declared.carry.Fate.TheVariants.{Kept, Changed, Fresh}
 use Rattle.plcx_keep.specs.declared.carry.CarryRow.{CarryRow}
 use Rattle.plcx_keep.specs.declared.carry.Lost.{Lost}
-use Rattle.plcx_keep.specs.Carries.{value_of, can_change, row, row_of, rows_from, is_lost, lost_if, lost_from}
+use Rattle.plcx_keep.specs.Carries.{value_of, value_at, can_change, row, row_of, rows_from, is_lost, lost_value, lost_if, lost_from}
 use Rattle.plcx_keep.specs.States.{kept_from, IsTypedRow, AreRowsOf, AreRowsWithin, AreLostWithin}
 use Rattle.plcx_keep.proofs.Lists.{get_lt}
 
@@ -98,7 +98,7 @@ lost_below after kept k [] n h = tt
 lost_below after kept k (l ∷ leaves) n h = by (value_of kept k) (lost_below after kept (k + 1) leaves n (omega arith))
   where
     with : (b : Bool) (v : Value) → Each (λ (lost : Lost). lost.leaf < n) (lost_from after kept (k + 1) leaves)
-        → Each (λ (lost : Lost). lost.leaf < n) ((if b then record { leaf = k; value = v } ∷ [] else []) ++ lost_from after kept (k + 1) leaves)
+        → Each (λ (lost : Lost). lost.leaf < n) ((if b then lost_value k v ∷ [] else []) ++ lost_from after kept (k + 1) leaves)
     with true v rest = (omega arith, rest)
     with false v rest = rest
 
@@ -108,3 +108,13 @@ lost_below after kept k (l ∷ leaves) n h = by (value_of kept k) (lost_below af
 
 pub lost_within : (after : List Leaf) (kept : List (Option Value)) (leaves : List Leaf) → AreLostWithin leaves (lost_from after kept 0 leaves)
 lost_within after kept leaves = lost_below after kept 0 leaves (length leaves) (omega arith)
+
+-- the same of rows, and of lost values, by other names
+pub rows_so : (before : List Leaf) (kept : List (Option Value)) (l : Laid) → IsLaid l → (leaves : List Leaf) (rows : List CarryRow) → leaves ≡ l.leaves → rows ≡ rows_from (value_at before kept) 0 leaves → AreRowsOf l.leaves rows
+rows_so before kept l laid leaves rows e f = subst (AreRowsOf l.leaves) (sym (f ∙ ap (rows_from (value_at before kept) 0) e)) (rows_are (value_at before kept) l laid)
+
+pub rows_within_so : (before : List Leaf) (kept : List (Option Value)) (l : Laid) (leaves : List Leaf) (rows : List CarryRow) → leaves ≡ l.leaves → rows ≡ rows_from (value_at before kept) 0 leaves → AreRowsWithin l.leaves rows
+rows_within_so before kept l leaves rows e f = subst (AreRowsWithin l.leaves) (sym (f ∙ ap (rows_from (value_at before kept) 0) e)) (rows_within (value_at before kept) l.leaves)
+
+pub lost_within_so : (after : List Leaf) (kept : List (Option Value)) (l : Laid) (leaves : List Leaf) (all : List Lost) → leaves ≡ l.leaves → all ≡ lost_from after kept 0 leaves → AreLostWithin l.leaves all
+lost_within_so after kept l leaves all e f = subst (AreLostWithin l.leaves) (sym (f ∙ ap (lost_from after kept 0) e)) (lost_within after kept l.leaves)

@@ -15,7 +15,7 @@ use Rattle.plcx_state.proofs.Paths.{same_if}
 use Rattle.plcx_keep.specs.declared.carry.Fate.TheVariants.{Kept, Changed, Fresh}
 use Rattle.plcx_keep.specs.declared.carry.CarryRow.{CarryRow}
 use Rattle.plcx_keep.specs.declared.carry.Lost.{Lost}
-use Rattle.plcx_keep.specs.Carries.{value_of, value_at, can_change, row, row_of, rows_from, is_from_old, is_carried_to, is_lost, lost_if, lost_from}
+use Rattle.plcx_keep.specs.Carries.{value_of, value_at, can_change, row, row_of, rows_from, is_from_old, is_carried_to, is_lost, lost_value, lost_if, lost_from}
 use Rattle.plcx_keep.specs.States.{HasRow, IsCarried}
 use Rattle.plcx_keep.specs.Laws.{IsUnchanged}
 use Rattle.plcx_keep.proofs.Found.{found_one, any_passes}
@@ -52,7 +52,7 @@ module _ (l : Laid) (kept : List (Option Value)) (laid : IsLaid l) (of : IsRetai
       by : (b : Bool) → is_kept leaf ≡ b → lost_if l.leaves k leaf (value_of kept k) ≡ []
       by true is =
           let h = has_of l.leaves kept of k leaf at is in
-          ap (lost_if l.leaves k leaf) (valued k h.value h.is) ∙ ap (λ b. if b then record { leaf = k; value = h.value } ∷ [] else []) (taken h.value h.typed is)
+          ap (lost_if l.leaves k leaf) (valued k h.value h.is) ∙ ap (λ b. if b then lost_value k h.value ∷ [] else []) (taken h.value h.typed is)
       by false is = ap (λ o. lost_if l.leaves k leaf (option_and_then (λ (x : Option Value). x) o)) (has_none l.leaves kept of k leaf at is)
 
   all_found : (k : ℕ) (leaves : List Leaf) → ((i : ℕ) (leaf : Leaf) → slice_get leaves i ≡ Some leaf → slice_get l.leaves (k + i) ≡ Some leaf) → lost_from l.leaves kept k leaves ≡ []

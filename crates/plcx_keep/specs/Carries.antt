@@ -63,10 +63,14 @@ is_carried_to p old leaf = same_path p (meant_path leaf.path) && (is_kept leaf &
 abbrev pub is_lost : List Leaf → Path → Value → Bool
 is_lost after p old = not (list_any (is_carried_to p old) after)
 
+-- the old value of the leaf of this number is lost
+abbrev pub lost_value : ℕ → Value → Lost
+lost_value number v = record { leaf = number; value = v }
+
 -- the value that the old state has for the leaf of a number, where there is one and it is lost
 abbrev pub lost_if : List Leaf → ℕ → Leaf → Option Value → List Lost
 lost_if after number leaf None = []
-lost_if after number leaf (Some old) = if is_lost after (meant_path leaf.path) old then record { leaf = number; value = old } ∷ [] else []
+lost_if after number leaf (Some old) = if is_lost after (meant_path leaf.path) old then lost_value number old ∷ [] else []
 
 -- the lost values of leaves in order, which are counted from a number on
 abbrev pub lost_from : List Leaf → List (Option Value) → ℕ → List Leaf → List Lost

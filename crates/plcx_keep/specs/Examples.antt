@@ -16,10 +16,6 @@ leaf name t n = record { path = name ∷ []; ty = t; initial = value t n; retain
 abbrev pub holds : Ty → ℤ → Option Value
 holds t n = Some (value t n)
 
--- the value of the leaf of this number is lost
-abbrev pub loses : ℕ → Value → Lost
-loses number v = record { leaf = number; value = v }
-
 -- rows and lost values
 abbrev pub carry : List CarryRow → List Lost → Carry
 carry rows lost = record { rows = rows; lost = lost }

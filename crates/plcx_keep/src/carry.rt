@@ -3,10 +3,12 @@ ghost use Rattle.std.specs.Prelude.{◌≡◌, ◌<◌, ◌^◌, ◌++◌, ◌&&
 ghost use Rattle.std.specs.List.{list_any};
 ghost use Rattle.plcx_types.specs.Lists.{Each};
 ghost use Rattle.plcx_types.specs.Literal.{value};
+ghost use Rattle.plcx_types.specs.TypeName.{same_ty};
+ghost use Rattle.plcx_funcs.specs.Applied.{fits};
 ghost use Rattle.plcx_state.specs.Layouts.{is_kept, leaf_at, meant_path, HasName};
 ghost use Rattle.plcx_state.specs.Retains.{IsRetainedOf};
 ghost use Rattle.plcx_state.specs.Tables.{path_text, HasPlainNames, IsTold};
-ghost use Rattle.plcx_keep.specs.Carries.{value_of, value_at, can_change, row_of, row_if_kept, rows_from, is_from_old, is_carried_to, lost_if, lost_from, carry_of};
+ghost use Rattle.plcx_keep.specs.Carries.{value_of, value_at, can_change, row, row_of, row_if_kept, rows_from, is_from_old, is_carried_to, lost_if, lost_from, carry_of};
 ghost use Rattle.plcx_keep.specs.States.{AreRowsOf, AreRowsWithin, AreLostWithin};
 
 use plcx_funcs::Allowed;
@@ -45,35 +47,57 @@ pub struct Carry {
     pub lost: Items<Lost>,
 }
 
+/// The value of a type and a number, where it is one.
+#[tactic(auto, using(plcx_funcs::proofs::Ranges::fits_in_range, plcx_funcs::proofs::Ranges::in_range_fits))]
+fn value_from(ty: Ty, n: i128) -> Option<Val>
+    ensures { result ≡ (if fits ty n then Some (value ty n) else None) }
+{
+    Val::new(ty, n)
+}
+
 /// The old number in another type, where both types are of whole numbers and it is in range.
 fn changed(old: Val, ty: Ty) -> Option<Val>
     ensures { result ≡ (if can_change old ty then Some (value ty old.n) else None) }
 {
-    if !Allowed::Whole.has(old.ty()) {
-        return None;
+    if Allowed::Whole.has(old.ty()) && Allowed::Whole.has(ty) {
+        value_from(ty, old.n())
+    } else {
+        None
     }
-    if !Allowed::Whole.has(ty) {
-        return None;
+}
+
+fn is_of(value: Val, ty: Ty) -> bool
+    ensures { result ≡ same_ty value.ty ty }
+{
+    value.ty() == ty
+}
+
+fn row(leaf: u32, fate: Fate, value: Val) -> CarryRow
+    ensures { result ≡ row leaf fate value }
+{
+    CarryRow { leaf, fate, value }
+}
+
+/// What becomes of a leaf for which there is an old value.
+fn row_from(number: u32, leaf: &Leaf, old: Val) -> CarryRow
+    ensures { result ≡ row_of number leaf.now (Some old) }
+{
+    if is_of(old, leaf.ty) {
+        return row(number, Fate::Kept, old);
     }
-    Val::new(ty, old.n())
+    match changed(old, leaf.ty) {
+        Some(value) => row(number, Fate::Changed, value),
+        None => row(number, Fate::Fresh, leaf.initial),
+    }
 }
 
 /// What becomes of a leaf by the old value at its path.
 fn row_of(number: u32, leaf: &Leaf, old: Option<Val>) -> CarryRow
     ensures { result ≡ row_of number leaf.now old }
 {
-    let (fate, value) = match old {
-        Some(old) if old.ty() == leaf.ty => (Fate::Kept, old),
-        Some(old) => match changed(old, leaf.ty) {
-            Some(value) => (Fate::Changed, value),
-            None => (Fate::Fresh, leaf.initial),
-        },
-        None => (Fate::Fresh, leaf.initial),
-    };
-    CarryRow {
-        leaf: number,
-        fate,
-        value,
+    match old {
+        Some(old) => row_from(number, leaf, old),
+        None => row(number, Fate::Fresh, leaf.initial),
     }
 }
 
@@ -178,7 +202,7 @@ fn all_rows(
 fn has_from(leaf: &Leaf, old: Val) -> bool
     ensures { result ≡ (is_kept leaf.now && is_from_old (row_of 0 leaf.now (Some old)).fate) }
 {
-    leaf.is_kept() && row_of(0, leaf, Some(old)).fate != Fate::Fresh
+    leaf.is_kept() && row_from(0, leaf, old).fate != Fate::Fresh
 }
 
 /// Whether some leaf of the new layout is kept or changed from the value of an old leaf.

@@ -2,10 +2,11 @@
 ghost use Rattle.std.specs.Prelude.{◌≡◌, List, Option};
 ghost use Rattle.plcx_types.specs.Lists.{Each};
 ghost use Rattle.plcx_types.specs.Value.{Value};
+ghost use Rattle.plcx_meaning.specs.Layout.{IsRetainedState};
 ghost use Rattle.plcx_state.specs.declared.layout.Leaf.{Leaf};
-ghost use Rattle.plcx_state.specs.Layouts.{Laid, IsLaid};
+ghost use Rattle.plcx_state.specs.Layouts.{Laid, IsLaid, all_meant};
 ghost use Rattle.plcx_state.specs.Lines.{StandsForRetained};
-ghost use Rattle.plcx_state.specs.Retains.{IsRetainedOf};
+ghost use Rattle.plcx_state.specs.Retains.{IsRetainedOf, kept_at};
 ghost use Rattle.plcx_state.specs.Tables.{HasPlainNames};
 ghost use Rattle.plcx_keep.specs.declared.carry.CarryRow.{CarryRow};
 ghost use Rattle.plcx_keep.specs.Carries.{carry_of};
@@ -19,8 +20,12 @@ pub fn one_state()
     ensures { (leaves : List Leaf) (rows : List CarryRow) (x y : List (Option Value)) → AreRowsOf leaves rows → IsCarried leaves rows x → IsCarried leaves rows y → x ≡ y }
 {}
 
+/// The state that rows make is a retained state of the meaning, so that runs go on from it.
+pub fn runs_go_on()
+    ensures { (l : Laid) (rows : List CarryRow) (kept : List (Option Value)) → IsLaid l → IsCarried l.leaves rows kept → IsRetainedState (all_meant l.leaves) (kept_at l.leaves kept) }
+{}
+
 /// From a layout to itself each value is kept, none is lost, and the state is the same.
-#[tactic(auto, using(crate::proofs::Same::is_unchanged))]
 pub fn nothing_changes()
     ensures { (l : Laid) (kept : List (Option Value)) → IsLaid l → IsRetainedOf l.leaves kept → IsUnchanged l.leaves kept }
 {}

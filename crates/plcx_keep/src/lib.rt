@@ -14,6 +14,6 @@ mod state;
 
 pub use carry::{Carry, CarryRow, Fate, Lost, carry_over};
 pub use examples::{examples_of_carrying, examples_of_reports};
-pub use law::{kept_twice, lines_are_read_again, nothing_changes, one_state};
+pub use law::{kept_twice, lines_are_read_again, nothing_changes, one_state, runs_go_on};
 pub use lines::{carried_lines, report_text};
 pub use state::carried;

@@ -1,8 +1,5 @@
 //! The retained state that a new version of a program begins with.
 ghost use Rattle.std.specs.Prelude.{IfOk};
-ghost use Rattle.plcx_meaning.specs.Layout.{IsRetainedState};
-ghost use Rattle.plcx_state.specs.Layouts.{all_meant};
-ghost use Rattle.plcx_state.specs.Retains.{kept_at};
 ghost use Rattle.plcx_keep.specs.States.{AreRowsOf, IsCarried};
 
 use crate::carry::Carry;
@@ -13,8 +10,7 @@ use std::alloc::Global;
 /// The retained state of the layout `after` that has the value of each row at the row's leaf.
 pub fn carried(alloc: Global, after: &Layout, carry: &Carry) -> Result<Retained, NoMemory>
     requires { AreRowsOf after.now.leaves carry.now.rows }
-    ensures state { IfOk result (λ kept. IsCarried after.now.leaves carry.now.rows kept) }
-    ensures meant { IfOk result (λ kept. IsRetainedState (all_meant after.now.leaves) (kept_at after.now.leaves kept)) }
+    ensures { IfOk result (λ kept. IsCarried after.now.leaves carry.now.rows kept) }
 {
     let mut state = initial(alloc, after)?;
     for row in carry.rows.as_slice() {
