@@ -1,9 +1,8 @@
 -- Leaves by their paths: the number that is found, and the text by which it is looked up.
-use Rattle.std.proofs.Common.{◌≡◌, ◌<◌, ◌+◌, ◌∷◌, ◌∙◌, ℕ, zero, suc, arith, Bool, true, false, true≢false, List, [], Option, Some, None, cond, length, map, refl, sym, ap, ap₂, zero-add}
+use Rattle.std.proofs.Common.{◌≡◌, ◌<◌, ◌+◌, ◌∷◌, ◌∙◌, ℕ, zero, suc, arith, Bool, true, false, true≢false, List, [], Option, Some, None, cond, length, refl, sym, ap, ap₂, zero-add}
 use Rattle.std.specs.Prelude.{slice_get, IfSome, ◌&&◌, ◌||◌}
 use Rattle.std.specs.Bool.{one_answer}
 use Rattle.std.specs.List.{position_from, list_any}
-use Rattle.std.specs.Str.{bytes_eq}
 use Rattle.std.proofs.Math.Bool.{or-true}
 use Rattle.std.proofs.lemmas.Bool.{and_parts, false_from_ne_true}
 use Rattle.std.proofs.lemmas.Option.{same_Some}
@@ -59,9 +58,10 @@ one_path (x ∷ xs) (y ∷ ys) nx ny px py h = meant_from (x ∷ xs) (y ∷ ys) 
 -- so to look for the text is to look for the path
 same_test : (a b : Leaf) → HasName a → HasName b → HasPlainNames a → HasPlainNames b → is_printed (path_text a) b ≡ is_at (meant_path a.path) b
 same_test a b na nb pa pb = one_answer (is_printed (path_text a) b) (is_at (meant_path a.path) b)
-    ((λ e. (bytes_eq-Decides (path_text a) (path_text b)).0 e), (λ e. (bytes_eq-Decides (path_text a) (path_text b)).1 e))
-    ((λ e. lowered_same a.path b.path (lowered_from a.path b.path (path_same (meant_path a.path) (meant_path b.path) e))),
-    (λ e. same_if (meant_path a.path) (meant_path b.path) (one_path a.path b.path na nb pa pb e)))
+    ((λ e. (bytes_eq-Decides (path_text a) (path_text b)).0 e), (λ e. (bytes_eq-Decides (path_text a) (path_text b)).1 e)) (
+      (λ e. lowered_same a.path b.path (lowered_from a.path b.path (path_same (meant_path a.path) (meant_path b.path) e))),
+      (λ e. same_if (meant_path a.path) (meant_path b.path) (one_path a.path b.path na nb pa pb e)),
+    )
 
 same_search : (a : Leaf) (k : ℕ) (leaves : List Leaf) → HasName a → HasPlainNames a → Each HasName leaves → Each HasPlainNames leaves → position_from (is_printed (path_text a)) k leaves ≡ position_from (is_at (meant_path a.path)) k leaves
 same_search a k [] na pa named plain = refl

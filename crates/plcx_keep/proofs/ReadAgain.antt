@@ -1,5 +1,5 @@
 -- The lines of a state are read as that state.
-use Rattle.std.proofs.Common.{◌≡◌, ◌∷◌, ◌∙◌, Bool, true, false, List, [], Option, Some, None, refl, sym, ap, ap₂, subst}
+use Rattle.std.proofs.Common.{◌≡◌, ◌∷◌, List, [], Option, Some, None, refl, sym, ap, ap₂, subst}
 use Rattle.std.specs.Prelude.{if◌then◌else◌}
 use Rattle.plcx_types.specs.declared.ty.Ty.{Ty}
 use Rattle.plcx_types.specs.Lists.{Each}
@@ -7,7 +7,7 @@ use Rattle.plcx_types.specs.Range.{InRange}
 use Rattle.plcx_types.specs.Value.{Value}
 use Rattle.plcx_meaning.specs.Layout.{Leaf as Meant}
 use Rattle.plcx_state.specs.declared.layout.Leaf.{Leaf}
-use Rattle.plcx_state.specs.Layouts.{Laid, IsLaid, BeginsTyped, all_meant, is_kept}
+use Rattle.plcx_state.specs.Layouts.{Laid, IsLaid, BeginsTyped, all_meant}
 use Rattle.plcx_state.specs.Lines.{StandsForRetained, retained_lines}
 use Rattle.plcx_state.specs.Meanings.{IsTypedFor, kept_values}
 use Rattle.plcx_state.specs.Retains.{Pairwise, Suits, IsRetainedOf, kept_of}

@@ -1,15 +1,13 @@
 -- From a layout to itself.
-use Rattle.std.proofs.Common.{◌≡◌, ◌+◌, ◌∷◌, ◌++◌, ◌∙◌, ℕ, zero, suc, Bool, true, false, true≢false, List, [], Option, Some, None, refl, sym, ap, ap₂, subst, arith, zero-add}
+use Rattle.std.proofs.Common.{◌≡◌, ◌+◌, ◌∷◌, ◌++◌, ◌∙◌, ℕ, suc, Bool, true, false, List, [], Option, Some, refl, sym, ap, ap₂, subst, arith, zero-add}
 use Rattle.std.specs.Prelude.{slice_get, not, ◌&&◌, if◌then◌else◌}
 use Rattle.std.specs.Option.{option_and_then}
-use Rattle.plcx_types.specs.declared.ty.Ty.{Ty}
-use Rattle.plcx_types.specs.Lists.{Each}
 use Rattle.plcx_types.specs.TypeName.{same_ty}
 use Rattle.plcx_types.specs.Literal.{value}
 use Rattle.plcx_types.specs.Value.{Value}
 use Rattle.plcx_types.proofs.TypeTable.{same_refl}
 use Rattle.plcx_state.specs.declared.layout.Leaf.{Leaf}
-use Rattle.plcx_state.specs.Layouts.{Laid, IsLaid, meant_path, is_kept, leaf_at}
+use Rattle.plcx_state.specs.Layouts.{Laid, IsLaid, meant_path, is_kept}
 use Rattle.plcx_state.specs.Retains.{IsRetainedOf}
 use Rattle.plcx_state.proofs.Paths.{same_if}
 use Rattle.plcx_keep.specs.declared.carry.Fate.TheVariants.{Kept, Changed, Fresh}
@@ -21,7 +19,7 @@ use Rattle.plcx_keep.specs.Laws.{IsUnchanged}
 use Rattle.plcx_keep.proofs.Found.{found_one, any_passes}
 use Rattle.plcx_keep.proofs.OneState.{one_state}
 use Rattle.plcx_keep.proofs.Rows.{each_row, rows_are}
-use Rattle.plcx_keep.proofs.States.{HasOf, has_of, has_none}
+use Rattle.plcx_keep.proofs.States.{has_of, has_none}
 
 -- a value of the leaf's type is kept
 kept_row : (n : ℕ) (leaf : Leaf) (v : Value) → v.ty ≡ leaf.ty → row_of n leaf (Some v) ≡ row n Kept v

@@ -1,20 +1,18 @@
 -- Rows of a layout, and the state that they make one after another.
-use Rattle.std.proofs.Common.{◌≡◌, ◌<◌, ◌≤◌, ◌+◌, ◌∷◌, ◌∙◌, ℕ, zero, suc, Bool, true, false, true≢false, List, [], Option, Some, None, map, set, length, refl, sym, ap, subst, arith}
+use Rattle.std.proofs.Common.{◌≡◌, ◌<◌, ◌≤◌, ◌+◌, ◌∷◌, ◌∙◌, ℕ, zero, suc, Bool, true, false, true≢false, List, [], Option, Some, None, set, length, refl, sym, ap, subst, arith}
 use Rattle.std.specs.Prelude.{slice_get, nat_lt, if◌then◌else◌}
 use Rattle.std.specs.Option.{option_map}
 use Rattle.std.proofs.lemmas.Bool.{ltb-true, ltb-false}
 use Rattle.std.proofs.lemmas.Option.{same_Some, slice_get-map}
-use Rattle.plcx_types.specs.declared.ty.Ty.{Ty}
 use Rattle.plcx_types.specs.Lists.{Each}
 use Rattle.plcx_types.specs.Range.{InRange}
 use Rattle.plcx_types.specs.Value.{Value}
 use Rattle.plcx_state.specs.declared.layout.Leaf.{Leaf}
 use Rattle.plcx_state.specs.Layouts.{is_kept}
-use Rattle.plcx_state.specs.Retains.{Pairwise, Suits, IsRetainedOf, HasKept}
+use Rattle.plcx_state.specs.Retains.{Suits, IsRetainedOf, HasKept}
 use Rattle.plcx_state.proofs.Eaches.{each_get}
 use Rattle.plcx_state.proofs.Pairing.{pairs_set}
 use Rattle.plcx_keep.specs.declared.carry.CarryRow.{CarryRow}
-use Rattle.plcx_keep.specs.Carries.{value_of}
 use Rattle.plcx_keep.proofs.Lists.{get_own, get_other, get_lt, each_by, beside}
 use Rattle.plcx_keep.specs.States.{kept_from, IsTypedRow, AreRowsOf, HasRow}
 

@@ -1,5 +1,5 @@
 -- Two changes of a layout in a row.
-use Rattle.std.proofs.Common.{◌≡◌, ◌∙◌, ℕ, List, Option, Some, refl, sym, ap, subst}
+use Rattle.std.proofs.Common.{◌≡◌, ◌∙◌, List, Option, Some, sym, ap}
 use Rattle.std.specs.Prelude.{slice_get}
 use Rattle.std.specs.Option.{option_and_then}
 use Rattle.std.proofs.lemmas.Option.{same_Some}
@@ -8,9 +8,8 @@ use Rattle.plcx_meaning.specs.Base.{Path}
 use Rattle.plcx_state.specs.declared.layout.Leaf.{Leaf}
 use Rattle.plcx_state.specs.Layouts.{Laid, IsLaid, meant_path, leaf_at}
 use Rattle.plcx_state.proofs.Eaches.{each_get}
-use Rattle.plcx_keep.specs.declared.carry.Fate.TheVariants.{Kept}
 use Rattle.plcx_keep.specs.declared.carry.CarryRow.{CarryRow}
-use Rattle.plcx_keep.specs.Carries.{value_of, value_at, row_of, rows_from, carry_of}
+use Rattle.plcx_keep.specs.Carries.{value_of, value_at, rows_from, carry_of}
 use Rattle.plcx_keep.specs.States.{HasRow, IsCarried}
 use Rattle.plcx_keep.specs.Laws.{KeepsAt, KeepsTwice}
 use Rattle.plcx_keep.proofs.Found.{found_one}

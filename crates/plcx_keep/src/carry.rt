@@ -193,7 +193,14 @@ fn all_rows(
 {
     let mut rows = Vec::new(alloc);
     for number in 0..leaves.len() {
-        push_row(alloc, &mut rows, before, state, number as u32, &leaves[number])?;
+        push_row(
+            alloc,
+            &mut rows,
+            before,
+            state,
+            number as u32,
+            &leaves[number],
+        )?;
     }
     Ok(rows)
 }

@@ -77,12 +77,7 @@ fn push_rows(
     Ok(())
 }
 
-fn push_lost(
-    alloc: Global,
-    text: &mut Vec<u8>,
-    leaves: &[Leaf],
-    lost: Lost,
-) -> Result<(), NoMemory>
+fn push_lost(alloc: Global, text: &mut Vec<u8>, leaves: &[Leaf], lost: Lost) -> Result<(), NoMemory>
     requires { lost.leaf < length leaves.now }
     ensures { OnOk result (text.new.items ≡ text.old.items ++ lost_line leaves.now lost) }
 {

@@ -1,4 +1,4 @@
-use Rattle.std.proofs.Common.{sym, ap, ◌∙◌, arith, Option}
+use Rattle.std.proofs.Common.{sym, ap, ◌∙◌, Option}
 use Rattle.std.specs.Option.{option_and_then}
 use Rattle.plcx_types.specs.Value.{Value}
 use Rattle.plcx_keep.proofs.Lists.{read_there}

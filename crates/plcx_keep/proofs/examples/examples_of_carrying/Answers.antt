@@ -2,9 +2,9 @@ use Rattle.std.proofs.Common.{refl}
 use Rattle.plcx_state.specs.Layouts.{leaf_at}
 use Rattle.plcx_keep.proofs.examples.examples_of_carrying.Goals as goal
 
-pub returns-clause-kept_in_any_case : goal.returns-clause-kept_in_any_case
+pub returns-clause-in_any_case : goal.returns-clause-in_any_case
 unfolding leaf_at
-returns-clause-kept_in_any_case c = refl
+returns-clause-in_any_case c = refl
 
 pub returns-clause-wider : goal.returns-clause-wider
 unfolding leaf_at
@@ -26,6 +26,6 @@ pub returns-clause-bits_are_no_number : goal.returns-clause-bits_are_no_number
 unfolding leaf_at
 returns-clause-bits_are_no_number c = refl
 
-pub returns-clause-removed : goal.returns-clause-removed
+pub returns-clause-renamed : goal.returns-clause-renamed
 unfolding leaf_at
-returns-clause-removed c = refl
+returns-clause-renamed c = refl

@@ -1,11 +1,10 @@
-use Rattle.std.proofs.Common.{◌≡◌, ◌+◌, List, Option, Some, length, sym, subst, arith}
-use Rattle.std.specs.Prelude.{slice_get}
+use Rattle.std.proofs.Common.{◌+◌, List, Option, sym, subst, arith}
 use Rattle.plcx_types.specs.Lists.{Each}
 use Rattle.plcx_types.specs.Value.{Value}
 use Rattle.plcx_keep.specs.declared.carry.CarryRow.{CarryRow}
 use Rattle.plcx_keep.specs.States.{AreRowsOf, HasRow}
 use Rattle.plcx_keep.proofs.Lists.{read_there}
-use Rattle.plcx_keep.proofs.States.{Goes, goes_none, goes_more, goes_all, can_set}
+use Rattle.plcx_keep.proofs.States.{Goes, goes_more, goes_all, can_set}
 use Rattle.plcx_keep.proofs.state.carried.Goals as goal
 
 pub set-requires : goal.set-requires
