@@ -1,0 +1,9 @@
+pub mod Lists
+pub mod Found
+pub mod Values
+pub mod States
+pub mod Rows
+pub mod OneState
+pub mod Same
+pub mod Twice
+pub mod ReadAgain
