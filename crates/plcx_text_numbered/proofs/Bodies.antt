@@ -85,7 +85,7 @@ module _ (whole : List Path) (apart : AreApart whole) (unit : List PouText) (pla
 
           by_levels : (l : ℕ) → l ≡ levels → Alike whole (Nothing {K = Unit {0}}) (with_standard time (blocks_run levels time unit) type inside g')
               (entered (section_does d' text) text (callee (here_at program (pos time) k at in_outs) u.number u.leaves u.first (length u.operands)) m)
-          by_levels zero is = let z = u.level in absurd (omega arith)
+          by_levels zero is = let z : u.plan.level < own.level = u.level in absurd (omega arith)
           by_levels (suc l) is =
               let deeper = u.low in
               alike_from _ _ (user_runs (blocks_run levels time unit) type inside g' u.user

@@ -55,7 +55,7 @@ member_read world (Some v) p s t h = within_read (meaning world v.ty) v.class p 
 -- the group of a function that gives a value, and what it gives
 pub record Typed (f : Func) (types : List Ty) (t : Ty) : Type 0 where
   pub of_group : Ty
-  pub group : group_of f types ≡ Some of_group
+  pub is_group : group_of f types ≡ Some of_group
   pub suits : can_apply f of_group types ≡ true
   pub gives : out_type f of_group ≡ t
 
@@ -63,7 +63,7 @@ typed_at : (f : Func) (types : List Ty) (t u : Ty) → group_of f types ≡ Some
 typed_at f types t u g h = by_test (can_apply f u types) refl h
   where
     by_test : (b : Bool) → can_apply f u types ≡ b → (if b then Some (out_type f u) else None) ≡ Some t → Typed f types t
-    by_test true e k = record { of_group = u; group = g; suits = e; gives = cc }
+    by_test true e k = record { of_group = u; is_group = g; suits = e; gives = cc }
     by_test false e k = absurd (cc)
 
 pub typed_of : (f : Func) (types : List Ty) (t : Ty) → result_type f types ≡ Some t → Typed f types t
@@ -73,7 +73,7 @@ typed_of f types t h = let r = and_then_some (type_at f types) (group_of f types
 call_is : (f : Func) (xs : List Value) (types : List Ty) (t : Ty) (h : Typed f types t) → types_of xs ≡ types → call_function f xs ≡ answer t (applied f h.of_group xs)
 call_is f xs types t h same =
     ap (λ us. call_at f xs (group_of f us)) same
-    ∙ ap (call_at f xs) h.group
+    ∙ ap (call_at f xs) h.is_group
     ∙ ap (λ us. if can_apply f h.of_group us then answer (out_type f h.of_group) (applied f h.of_group xs) else Missing) same
     ∙ ap (λ b. if b then answer (out_type f h.of_group) (applied f h.of_group xs) else Missing) h.suits
     ∙ ap (λ u. answer u (applied f h.of_group xs)) h.gives
@@ -125,7 +125,7 @@ module _ (whole : List Path) (plan : Plan) (c : Numbering) (site : Site) (sectio
   called_at h arguments types t xs ws vs first out w r are same has le room below =
       let T = typed_of h types t r in
       let own : map (λ (a : Argument). a.ty) arguments ≡ types = sym (arguments_typed here (cells_of n vs) arguments) ∙ ap types_of are ∙ same in
-      let grouped : group h arguments ≡ T.of_group = ap (λ us. or_bool (group_of h us)) own ∙ ap or_bool T.group in
+      let grouped : group h arguments ≡ T.of_group = ap (λ us. or_bool (group_of h us)) own ∙ ap or_bool T.is_group in
       let given : arguments_at here (cells_of n vs) first (length arguments) ≡ xs = ap (map (argument_at here (cells_of n vs))) has ∙ are in
       let P : Answer Value → Type 0 = λ o. Runs n (Reads here n w ws t (Wire out)) o (lines_do sections text here (call_lines h arguments first out) n vs) in
       let Q : Result Value Fault → Type 0 = λ o. Runs n (Reads here n w ws t (Wire out)) (answer t (applied h T.of_group xs)) (then_do (with_cells (with_value o (λ v. set_wire (cells_of n vs) out v)) n) (λ m us. Ended m us)) in
