@@ -86,7 +86,9 @@ module _ (whole : List Path) (apart : AreApart whole) (c : Around) (temporaries_
 
   -- later wires don't matter
   one_same : (fm : Formal) (i : List ℕ) (a : Argument) (wire : ℕ) (vs us : List Value) (g : TextState) → IsBelow (wire + taken_wires fm a) vs us → stored_one fm i a wire us g ≡ stored_one fm i a wire vs g
-  one_same (Takes t) i a wire vs us g b = ap (λ (v : Value). record g { store = put g.store (in_lower_case a.formal ∷ in_lower_case i ∷ site.path) v.n }) (b.same (wire + wires_of a.value) (omega arith))
+  one_same (Takes t) i a wire vs us g b =
+      let low : wire + wires_of a.value < wire + (wires_of a.value + 1) = omega arith in
+      ap (λ (v : Value). record g { store = put g.store (in_lower_case a.formal ∷ in_lower_case i ∷ site.path) v.n }) (b.same (wire + wires_of a.value) low)
   one_same (Binds t) i a wire vs us g b = refl
   one_same NoFormal i a wire vs us g b = refl
 
@@ -113,7 +115,7 @@ module _ (whole : List Path) (apart : AreApart whole) (c : Around) (temporaries_
       (λ v vs r.
       let count = r.below.count in
       let x = source_at own_here (cells_of n vs) h.source in
-      let held : number_at (set vs w x) w ≡ v.n = ap (λ (u : Value). u.n) (get_or-set_at vs w x no_value refl (omega arith)) ∙ sym r.number in
+      let held : number_at (set vs w x) w ≡ v.n = ap (λ (u : Value). u.n) (get_or-set_at vs w w x no_value refl (omega arith)) ∙ sym r.number in
       alike_from _ _ (ap (λ b. if b then go (record g { store = put g.store p v.n }) else Stuck) (ap (λ s. same_ty s t) r.typed ∙ same_refl t))
       (rest (set vs w x) (record g { store = put g.store p v.n }) (below_then wire wire ws vs (set vs w x) (omega arith) r.below (below_set wire w vs x (omega arith)))
       (ap (λ m. record g { store = put g.store p m }) (sym held)))))

@@ -95,9 +95,9 @@ module _ (whole : List Path) (plan : Plan) (c : Numbering) (site : Site) (sectio
   source_low (Number v) w le h = tt
   source_low (Name x) w le h = place_low x w le (referent c.scope.world (variable_in c.scope x)) (c.place x) h
   source_low (Member i x) w le h = tt
-  source_low (Apply x es) w le h = omega arith
-  source_low (Not e) w le h = omega arith
-  source_low (Binary op a b) w le h = omega arith
+  source_low (Apply x es) w le h = let low : w + all_wires es < w + (all_wires es + 1) = omega arith in low
+  source_low (Not e) w le h = let low : w + wires_of e < w + (wires_of e + 1) = omega arith in low
+  source_low (Binary op a b) w le h = let low : w + (wires_of a + wires_of b) < w + (wires_of a + wires_of b + 1) = omega arith in low
 
   -- the value of a name
   place_read : (x : List ℕ) (w : ℕ) (ws : List Value) → SameFrame plan.temporaries f ws → (t : Ty) (r : Referent) (p : Place) → referent_type r ≡ Some t → IsPlaceOf plan x r p
@@ -132,7 +132,7 @@ module _ (whole : List Path) (plan : Plan) (c : Numbering) (site : Site) (sectio
       subst P (sym (call_is h xs types t T same)) (subst Q (sym (ap₂ (λ u zs. applied h u zs) grouped given)) (by_result (applied h T.of_group xs)))
     where
       by_result : (o : Result Value Fault) → Runs n (Reads here n w ws t (Wire out)) (answer t o) (then_do (with_cells (with_value o (λ v. set_wire (cells_of n vs) out v)) n) (λ m us. Ended m us))
-      by_result (Ok v) = record { is = (refl, record { number = sym (ap (λ (u : Value). u.n) (get_or-set_at vs out v no_value refl room)); typed = refl; below = below_then w w ws vs _ (omega arith) below (below_set w out vs v le) }) }
+      by_result (Ok v) = record { is = (refl, record { number = sym (ap (λ (u : Value). u.n) (get_or-set_at vs out out v no_value refl room)); typed = refl; below = below_then w w ws vs _ (omega arith) below (below_set w out vs v le) }) }
       by_result (Err fault) = record { is = (refl, refl) }
 
   named_at : (o : Option Func) (arguments : List Argument) (types : List Ty) (t : Ty) (xs ws vs : List Value) (first out w : ℕ) → call_type o types ≡ Some t → map (argument_at here (cells_of n vs)) arguments ≡ xs → types_of xs ≡ types
@@ -163,12 +163,14 @@ module _ (whole : List Path) (plan : Plan) (c : Numbering) (site : Site) (sectio
         subst P (sym (member_read c.scope.world (part_in c.scope i x) p g.store t typed))
         (record { is = (refl, record { number = agrees.store.each (here.at.leaves + c.inner i x) p (lies.paths (c.inner i x) (in_lower_case x ∷ in_lower_case i ∷ []) right); typed = refl; below = below_refl w ws }) })
     computes (Apply x es) t typed right a w ws has le room fr =
+        let wide : w + (all_wires es + 1) ≤ length ws = room in
         let all = and_then_some (call_type (function_named x)) (expression_types c.scope es) t typed in
         let parts = at_parts here.program.arguments.items a (all_arguments c w es) (inputs c w es) has in
         runs_lines sections text here n ws (AllRead w ws es all.0) (Reads here n w ws t (source_of c w (Apply x es))) (values_of es (setting c.scope site) g.store f) (all_lines c a w es) _ (call_named (function_named x))
         (all_computes es all.0 all.1 right a w ws parts.0 le (omega arith) fr)
         (λ xs vs r. let count = r.below.count in named_at (function_named x) (inputs c w es) all.0 t xs ws vs _ (w + all_wires es) w all.2 r.values r.typed parts.1 (omega arith) (omega arith) r.below)
     computes (Not e) t typed right a w ws has le room fr =
+        let wide : w + (wires_of e + 1) ≤ length ws = room in
         let one = and_then_some (λ u. result_type func.Not (u ∷ [])) (expression_type c.scope e) t typed in
         let parts = at_parts here.program.arguments.items a (arguments_of c w e) (argument c w e ∷ []) has in
         runs_lines sections text here n ws (Reads here n w ws one.0 (source_of c w e)) (Reads here n w ws t (source_of c w (Not e))) (value_of e (setting c.scope site) g.store f) (lines_of c a w e) _ (λ v. call_function func.Not (v ∷ []))
@@ -176,6 +178,7 @@ module _ (whole : List Path) (plan : Plan) (c : Numbering) (site : Site) (sectio
         (λ v vs r. let count = r.below.count in called_at func.Not (argument c w e ∷ []) (one.0 ∷ []) t (v ∷ []) ws vs _ (w + wires_of e) w one.2 (ap (λ u. u ∷ []) (argument_is e one.0 w vs v one.1 r.number r.typed)) (ap (λ u. u ∷ []) r.typed)
         parts.1 (omega arith) (omega arith) r.below)
     computes (Binary op p q) t typed right a w ws has le room fr =
+        let wide : w + (wires_of p + wires_of q + 1) ≤ length ws = room in
         let one = and_then_some (λ u. option_and_then (λ k. result_type (function_of op) (u ∷ k ∷ [])) (expression_type c.scope q)) (expression_type c.scope p) t typed in
         let two = and_then_some (λ k. result_type (function_of op) (one.0 ∷ k ∷ [])) (expression_type c.scope q) t one.2 in
         let k = w + wires_of p in
@@ -201,6 +204,7 @@ module _ (whole : List Path) (plan : Plan) (c : Numbering) (site : Site) (sectio
         → Runs n (AllRead w ws es types) (values_of es (setting c.scope site) g.store f) (lines_do sections text here (all_lines c a w es) n ws)
     all_computes no_expression types typed right a w ws has le room fr = record { is = (refl, record { values = refl; typed = cc; below = below_refl w ws }) }
     all_computes (expression e es) types typed right a w ws has le room fr =
+        let wide : w + (wires_of e + all_wires es) ≤ length ws = room in
         let one = and_then_some (λ u. option_map (λ us. u ∷ us) (expression_types c.scope es)) (expression_type c.scope e) types typed in
         let more = mapped_some (λ us. one.0 ∷ us) (expression_types c.scope es) types one.2 in
         let k = w + wires_of e in
