@@ -111,18 +111,19 @@ entered program text owner callee depth pou leaves first count at bound in_outs 
 pub same_at : {A : Type 0} (xs : List A) (k : ℕ) (p q : A) → slice_get xs k ≡ Some p → q ≡ get_or xs k q → q ≡ p
 same_at xs k p q there is = is ∙ get_or_from_slice_get xs k p q there
 
+-- wires are gone behind a POU
+gone : (r : Result (Unit {0}) Stop) (m : Numbers) (new : List Value) (u : Unit {0}) → outcome r u m ≡ then_do (outcome r new m) (λ k ws. Ended k u)
+gone (Ok v) m new u = refl
+gone (Err s) m new u = refl
+
 -- a POU is entered as its section is evaluated with its wires
 pub entered_is : (sections : Sections) (text : Text) (here : Here) (n m : Numbers) (e : Entry) (own new : List Value) (r : Result (Unit {0}) Stop)
     → slice_get text.entries.items here.pou ≡ Some e → own ≡ e.wires.items → outcome r new m ≡ sections here e.section n own → outcome r tt m ≡ entered_as sections text here n
 entered_is sections text here n m e own new r there is does =
-    gone r
+    gone r m new tt
     ∙ ap (λ o. then_do o (λ k ws. Ended k tt)) does
     ∙ ap (λ ws. then_do (sections here e.section n ws) (λ k vs. Ended k tt)) is
     ∙ sym (ap (λ o. found o (λ (f : Entry). then_do (sections here f.section n f.wires.items) (λ k ws. Ended k tt))) there)
-  where
-    gone : (r : Result (Unit {0}) Stop) → outcome r tt m ≡ then_do (outcome r new m) (λ k ws. Ended k tt)
-    gone (Ok u) = refl
-    gone (Err s) = refl
 
 -- a section is its lines
 pub section_is : (depth : ℕ) (text : Text) (here : Here) (k : ℕ) (part : Section) (ls : List Line) (n : Numbers) (ws : List Value) → 0 < depth → slice_get text.sections.items k ≡ Some part → ls ≡ part.lines.items
@@ -143,7 +144,7 @@ part_sound program text depth pou number owner part ls sound body h same is =
     let Q : ℕ → Type 0 = λ k. AreSoundLines program text number k owner h.section.lines.items in
     sound_lines program text number (depth - 1) pou owner ls (omega arith)
     (subst P (sym (is ∙ ap (λ (s : Section). s.lines.items) same))
-        (subst Q h.part (sound.sections number h.section owner h.is (ap (slice_get program.bodies.items) h.part ∙ body))))
+    (subst Q h.part (sound.sections number h.section owner h.is (ap (slice_get program.bodies.items) h.part ∙ body))))
 
 pub part_typed : (text : Text) (spot : Spot) (depth number : ℕ) (values memories own : List Value) (part : Section) (ls : List Line) → (t : IsTypedAt text spot values memories own)
     → (h : HasSection text depth spot.pou number) → part ≡ h.section → ls ≡ part.lines.items → LinesTyped text spot values memories own ls
@@ -158,11 +159,11 @@ part_typed text spot depth number values memories own part ls t h same is =
 -- the section that is chosen is that of an arm
 pub choice_arm : (arms : List Arm) (n : ℤ) (k : ℕ) → choice arms n ≡ Some k → (i : ℕ) × (a : Arm) × (slice_get arms i ≡ Some a) × (a.section ≡ k)
 choice_arm [] n k e = absurd (cc)
-choice_arm (a ∷ arms) n k e = by_test (selects n a.label) refl
+choice_arm (a ∷ arms) n k e = by_test (selects n a.label) refl (λ h. choice_arm arms n k h)
   where
-    by_test : (b : Bool) → selects n a.label ≡ b → (i : ℕ) × (x : Arm) × (slice_get (a ∷ arms) i ≡ Some x) × (x.section ≡ k)
-    by_test true is = (0, a, refl, same_Some a.section k (sym (ap (λ b. if b then Some a.section else choice arms n) is) ∙ e))
-    by_test false is = let r = choice_arm arms n k (sym (ap (λ b. if b then Some a.section else choice arms n) is) ∙ e) in (suc r.0, r.1, r.2, r.3)
+    by_test : (b : Bool) → selects n a.label ≡ b → (choice arms n ≡ Some k → (i : ℕ) × (x : Arm) × (slice_get arms i ≡ Some x) × (x.section ≡ k)) → (i : ℕ) × (x : Arm) × (slice_get (a ∷ arms) i ≡ Some x) × (x.section ≡ k)
+    by_test true is rest = (0, a, refl, same_Some a.section k (sym (ap (λ b. if b then Some a.section else choice arms n) is) ∙ e))
+    by_test false is rest = let r = rest (sym (ap (λ b. if b then Some a.section else choice arms n) is) ∙ e) in (suc r.0, r.1, r.2, r.3)
 
 -- and is there
 pub chosen_section : (text : Text) (below pou first count k : ℕ) (n : ℤ) (arms : List Arm) → AreArms text below pou first count → arms ≡ slice_range text.arms.items first (first + count)

@@ -9,7 +9,7 @@ use Rattle.plcx_meaning.specs.Execute.{selects}
 use Rattle.plcx_steps.specs.declared.program.Source.{Source}
 use Rattle.plcx_steps.specs.declared.program.Program.{Program}
 use Rattle.plcx_steps.specs.declared.program.Instance.{Instance}
-use Rattle.plcx_steps.specs.Numbered.{Here, here_at, Cells, cells, source_at, read, bound_at, acted}
+use Rattle.plcx_steps.specs.Numbered.{Here, here_at, Cells, cells, read, bound_at, acted}
 use Rattle.plcx_steps.specs.Sound.{origin}
 use Rattle.plcx_text_steps.specs.declared.text.Line.{Line}
 use Rattle.plcx_text_steps.specs.declared.text.Line.TheVariants.{Act, Call, If, While, Case}

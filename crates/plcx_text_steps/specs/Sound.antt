@@ -1,6 +1,5 @@
 -- Prepared texts whose numbers lie where they have to.
 use Rattle.std.specs.Prelude.{◌≡◌, ℕ, ◌+◌, ◌<◌, ◌≤◌, List, Some, length, slice_get, slice_range}
-use Rattle.plcx_types.specs.Value.{Value}
 use Rattle.plcx_steps.specs.declared.program.Body.{Body}
 use Rattle.plcx_steps.specs.declared.program.Program.{Program}
 use Rattle.plcx_steps.specs.declared.program.Instance.{Instance}
