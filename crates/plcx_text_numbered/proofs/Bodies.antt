@@ -1,10 +1,12 @@
 -- POUs within POUs, and a scan of a program: over numbers as over paths.
-use Rattle.std.proofs.Common.{◌≡◌, ℕ, zero, suc, ◌+◌, ◌<◌, ◌≤◌, pos, List, [], ◌∷◌, ◌++◌, length, Some, None, refl, sym, ap, ◌∙◌, subst, arith, append_assoc, add_assoc, zero-add}
+use Rattle.std.proofs.Common.{◌≡◌, ℕ, zero, suc, ◌+◌, ◌<◌, ◌≤◌, pos, List, [], ◌∷◌, ◌++◌, length, Option, Some, None, refl, sym, ap, ◌∙◌, subst, arith, append_assoc, add_assoc, zero-add}
 use Rattle.std.specs.Prelude.{slice_get}
 use Rattle.std.proofs.lemmas.Option.{slice_get_within}
 use Rattle.plcx_types.specs.Name.{in_lower_case}
+use Rattle.plcx_types.specs.Value.{Value}
+use Rattle.plcx_std.specs.declared.kind.StdKind.{StdKind}
 use Rattle.plcx_std.specs.Kind.{kind_named}
-use Rattle.plcx_meaning.specs.Base.{Path, Ended, then_do, found, Site, top}
+use Rattle.plcx_meaning.specs.Base.{Path, Outcome, Ended, then_do, found, Site, top}
 use Rattle.plcx_meaning.specs.Tree.{PouText}
 use Rattle.plcx_meaning.specs.Layout.{Scope, variables_of}
 use Rattle.plcx_meaning.specs.Standard.{called as called_at}
@@ -48,10 +50,14 @@ module _ (whole : List Path) (apart : AreApart whole) (unit : List PouText) (pla
   around own k h = record { unit = unit; plans = plans; own = own; program = program; text = text; num = h.num; spare = h.spare; width = length h.entry.wires.items }
 
   standard_steps : (users : TextCalls) → StepsStandard time (with_standard time users)
-  standard_steps users type kind site g h = ap (λ o. elim o [ Some k ↦ Ended (record g { store = called_at k time site.path g.store }) tt | None ↦ users type site g ]) h
+  standard_steps users type kind site g h =
+      let F : Option StdKind → Outcome TextState (Unit {0}) = λ o. elim o [ Some k ↦ Ended (record g { store = called_at k time site.path g.store }) tt | None ↦ users type site g ] in
+      ap F h
 
   user_runs : (users : TextCalls) (type : List ℕ) (site : Site) (g : TextState) → kind_named type ≡ None → with_standard time users type site g ≡ users type site g
-  user_runs users type site g h = ap (λ o. elim o [ Some k ↦ Ended (record g { store = called_at k time site.path g.store }) tt | None ↦ users type site g ]) h
+  user_runs users type site g h =
+      let F : Option StdKind → Outcome TextState (Unit {0}) = λ o. elim o [ Some k ↦ Ended (record g { store = called_at k time site.path g.store }) tt | None ↦ users type site g ] in
+      ap F h
 
   -- a POU as an instance, by how the blocks of its instances are run
   abbrev PouAlike : (levels : ℕ) (own : PouPlan) (k : ℕ) → Type 0
@@ -70,8 +76,11 @@ module _ (whole : List Path) (apart : AreApart whole) (unit : List PouText) (pla
       let there : IsSection text (suc h.entry.section) h.entry.section h.section.lines.items = record { section = h.section; is = h.is; low = omega arith; are_lines = refl } in
       let deep' : suc h.entry.section ≤ d = let z : h.entry.section ≡ e.section = ap (λ (x : Entry). x.section) same in omega arith in
       let s = section_lines whole apart c h.apart site k time at in_outs lies same_in_outs d (suc h.entry.section) h.entry.section h.section.lines.items deep' there in
-      alike_from _ _ (ap (λ (w : Scope). then_do (list_runs own.pou.body (record { world = w.world; variables = w.own; site = site }) call g (fresh (variables_of own.pou.blocks))) (λ x f. Ended x tt)) (sym h.scope))
-      (alike_as _ _ (ap (λ o. found o (λ (x : Entry). then_do (section_does d text (here_at program (pos time) k at in_outs) x.section n x.wires.items) (λ m ws. Ended m tt))) h.begins ∙ ap (λ o. then_do o (λ m ws. Ended m tt)) (s.2 n h.entry.wires.items))
+      let F : Scope → Outcome TextState (Unit {0}) = λ w. then_do (list_runs own.pou.body (record { world = w.world; variables = w.own; site = site }) call g (fresh (variables_of own.pou.blocks))) (λ x f. Ended x tt) in
+      let G : Option Entry → Outcome Numbers (Unit {0}) = λ o. found o (λ (x : Entry). then_do (section_does d text (here_at program (pos time) k at in_outs) x.section n x.wires.items) (λ m ws. Ended m tt)) in
+      let H : Outcome Numbers (List Value) → Outcome Numbers (Unit {0}) = λ o. then_do o (λ m ws. Ended m tt) in
+      alike_from _ _ (ap F (sym h.scope))
+      (alike_as _ _ (ap G h.begins ∙ ap H (s.2 n h.entry.wires.items))
       (alike_then _ _ _ _
       (lines_alike whole apart c h.apart site k time at in_outs lies same_in_outs call (standard_steps (blocks_run levels time unit)) calls h.free own.pou.body h.entry.section s.0 h.section.lines.items s.1 h.lines
       g (fresh (variables_of own.pou.blocks)) n h.entry.wires.items a (record { frame = h.frame; width_is = refl }))
