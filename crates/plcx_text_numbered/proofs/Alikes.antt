@@ -4,7 +4,7 @@ use Rattle.std.specs.Prelude.{if◌then◌else◌}
 use Rattle.plcx_types.specs.declared.ty.Ty.TheVariants as ty
 use Rattle.plcx_types.specs.TypeName.{same_ty}
 use Rattle.plcx_types.specs.Value.{Value}
-use Rattle.plcx_meaning.specs.Base.{Path, is_true, Stop, Faulted, OutOfTurns, Outcome, Ended, Stopped, Stuck, then_do, spend}
+use Rattle.plcx_meaning.specs.Base.{Path, is_true, Stop, OutOfTurns, Outcome, Ended, Stopped, Stuck, then_do, spend}
 use Rattle.plcx_meaning.specs.Functions.{Answer, Given, Faulty, Missing}
 use Rattle.plcx_meaning.specs.Execute.{TextState, with_value, with_truth}
 use Rattle.plcx_steps.specs.Numbered.{Here}

@@ -1,5 +1,5 @@
 -- Assignments, conditions and loops of a body at an instance.
-use Rattle.std.proofs.Common.{◌≡◌, ℕ, zero, suc, ◌+◌, ◌<◌, ◌≤◌, ℤ, pos, Bool, true, false, List, [], ◌∷◌, length, set, Some, refl, sym, ap, ◌∙◌, subst, arith}
+use Rattle.std.proofs.Common.{◌≡◌, ℕ, zero, suc, ◌+◌, ◌≤◌, ℤ, pos, Bool, true, false, List, [], ◌∷◌, length, set, Some, refl, sym, ap, ◌∙◌, subst, arith}
 use Rattle.std.specs.Prelude.{slice_get, if◌then◌else◌}
 use Rattle.std.specs.Str.{bytes_eq}
 use Rattle.std.proofs.lemmas.List.{length-set}
@@ -33,7 +33,7 @@ use Rattle.plcx_text_numbered.specs.Setting.{setting}
 use Rattle.plcx_text_numbered.specs.Statements.{Around, IsExpression, store_line, IsSection}
 use Rattle.plcx_text_numbered.proofs.Runs.{frame_below}
 use Rattle.plcx_text_numbered.proofs.Values.{computes}
-use Rattle.plcx_text_numbered.proofs.Alikes.{both_end, both_stop, alike_then, alike_as, alike_from, alike_spend, alike_truth}
+use Rattle.plcx_text_numbered.proofs.Alikes.{both_end, both_stop, alike_then, alike_from, alike_spend, alike_truth}
 
 -- a leaf is written
 pub agree_set : (whole : List Path) → AreApart whole → (g : TextState) (n : Numbers) (p : Path) (i : ℕ) (v : ℤ) (w : Value) → slice_get whole i ≡ Some p → v ≡ w.n → Agree whole g n
@@ -125,7 +125,10 @@ module _ (whole : List Path) (apart : AreApart whole) (c : Around) (temporaries_
   pub section_lines : (d below number : ℕ) (lines : List Line) → below ≤ d → IsSection c.text below number lines → (e : ℕ) × (number ≤ e) × ((n : Numbers) (ws : List Value) → section_does d c.text here number n ws ≡ lines_do (section_does e c.text) c.text here lines n ws)
   section_lines zero below number lines le h = let low = h.low in absurd (omega arith)
   section_lines (suc d) below number lines le h =
-      let low = h.low in
-      (d, omega arith, λ n ws.
-      ap (λ o. found o (λ (s : Section). lines_do (section_does d c.text) c.text here s.lines.items n ws)) h.is
-      ∙ ap (λ ls. lines_do (section_does d c.text) c.text here ls n ws) h.are_lines)
+      let low = h.low in (
+        d,
+        omega arith,
+        λ n ws.
+            ap (λ o. found o (λ (s : Section). lines_do (section_does d c.text) c.text here s.lines.items n ws)) h.is
+            ∙ ap (λ ls. lines_do (section_does d c.text) c.text here ls n ws) h.are_lines,
+      )

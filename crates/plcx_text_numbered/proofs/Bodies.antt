@@ -21,7 +21,7 @@ use Rattle.plcx_text_steps.specs.declared.text.Text.{Text}
 use Rattle.plcx_text_steps.specs.Numbered.{Numbers, inner, callee, entered, section_does, text_does}
 use Rattle.plcx_text_numbered.specs.Agreeing.{Lies, SameInOuts, Agree, Alike, Nothing}
 use Rattle.plcx_text_numbered.specs.Setting.{setting}
-use Rattle.plcx_text_numbered.specs.Statements.{PouPlan, Around, IsSection, IsUser, IsPou, IsPrepared}
+use Rattle.plcx_text_numbered.specs.Statements.{PouPlan, Around, IsSection, IsPou, IsPrepared}
 use Rattle.plcx_text_numbered.proofs.Alikes.{both_end, alike_then, alike_as, alike_from}
 use Rattle.plcx_text_numbered.proofs.Assigning.{section_lines}
 use Rattle.plcx_text_numbered.proofs.Calling.{inner_site, StepsStandard, CallsAlike, bound_same}
@@ -98,8 +98,8 @@ module _ (whole : List Path) (apart : AreApart whole) (unit : List PouText) (pla
           by_levels (suc l) is =
               let deeper = u.low in
               alike_from _ _ (user_runs (blocks_run levels time unit) type inside g' u.user
-                  ∙ ap (λ x. blocks_run x time unit type inside g') (sym is)
-                  ∙ ap (λ o. found o (λ (p : PouText). pou_runs p (world_of unit) (with_standard time (blocks_run l time unit)) inside g')) u.block)
+              ∙ ap (λ x. blocks_run x time unit type inside g') (sym is)
+              ∙ ap (λ o. found o (λ (p : PouText). pou_runs p (world_of unit) (with_standard time (blocks_run l time unit)) inside g')) u.block)
               (lower u.plan u.number u.is_plan u.level l is u.entry u.begins inside (inner at u.leaves) _
               (lies_within whole own.plan.paths u.plan.plan.paths site.path at.leaves u.leaves (in_lower_case i) lies u.lies)
               (bound_same whole apart (around own k h) h.apart site k time at in_outs lies same_in_outs below i args type lines u) d' (omega arith) g' m b)

@@ -1,6 +1,6 @@
 -- Calls of instances: the arguments are evaluated, then stored, and then the block is run.
-use Rattle.std.proofs.Common.{◌≡◌, ℕ, zero, suc, ◌+◌, ◌<◌, ◌≤◌, ℤ, pos, Bool, true, false, List, [], ◌∷◌, ◌++◌, length, set, map, Option, Some, None, refl, sym, ap, ◌∙◌, subst, arith, ◌⊎◌, inl, inr}
-use Rattle.std.specs.Prelude.{slice_get, slice_range, slice_index_or, option_map, if◌then◌else◌}
+use Rattle.std.proofs.Common.{◌≡◌, ℕ, ◌+◌, ◌<◌, ◌≤◌, pos, true, List, [], ◌∷◌, ◌++◌, length, set, map, Some, refl, sym, ap, ◌∙◌, arith, ◌⊎◌, inl, inr}
+use Rattle.std.specs.Prelude.{slice_get, option_map, if◌then◌else◌}
 use Rattle.std.proofs.lemmas.Grind.{get_or-set_at}
 use Rattle.std.proofs.lemmas.Option.{slice_get-map, get_or_from_slice_get}
 use Rattle.plcx_types.specs.Name.{in_lower_case}
@@ -55,7 +55,7 @@ pub standard_alike : (whole : List Path) → AreApart whole → (k : StdKind) (t
 standard_alike whole apart k time p leaf there g n a =
     let none : (i : ℕ) (x : Path × Memory) → slice_get [] i ≡ Some x → ⊥ = λ i x h. cc in
     let r = standard_agree (shape whole) (record { paths = apart; cells = record { apart = λ i j x h m. absurd (none i x h) } }) no_watch tt k time p leaf there (drawn g) (numbers_drawn n)
-        (record { store = a.store; memories = record { long = omega arith; each = λ i x h. absurd (none i (plain_cell x) h) }; left = a.left; heard = refl }) in
+    (record { store = a.store; memories = record { long = omega arith; each = λ i x h. absurd (none i (plain_cell x) h) }; left = a.left; heard = refl }) in
     record { store = r.store; left = a.left }
 
 -- where the block of an instance is run
@@ -193,7 +193,7 @@ module _ (whole : List Path) (apart : AreApart whole) (c : Around) (temporaries_
     each = λ j key there.
         let b = u.bound j key there in
         let at_place : slice_get (bound_at own_here u.first (length u.operands)) j ≡ Some (leaf_at at in_outs b.0) =
-            ap (λ os. slice_get (map (leaf_at at in_outs) os) j) u.has ∙ slice_get-map (leaf_at at in_outs) u.operands j ∙ ap (option_map (leaf_at at in_outs)) b.1 in
+        ap (λ os. slice_get (map (leaf_at at in_outs) os) j) u.has ∙ slice_get-map (leaf_at at in_outs) u.operands j ∙ ap (option_map (leaf_at at in_outs)) b.1 in
         ap (slice_get whole) (get_or_from_slice_get (bound_at own_here u.first (length u.operands)) j (leaf_at at in_outs b.0) 0 at_place) ∙ bound_leaf b.0 (λ s. bind args (setting c.num.scope s) i key) b.2;
   }
 

@@ -1,6 +1,6 @@
 -- The lines of an expression compute its value.
-use Rattle.std.proofs.Common.{◌≡◌, ℕ, ◌+◌, ◌<◌, ◌≤◌, ℤ, Bool, true, false, List, [], ◌∷◌, ◌++◌, length, set, map, Option, Some, None, Result, Ok, Err, refl, sym, ap, ap₂, ◌∙◌, subst, arith}
-use Rattle.std.specs.Prelude.{slice_get, slice_range, if◌then◌else◌}
+use Rattle.std.proofs.Common.{◌≡◌, ℕ, ◌+◌, ◌<◌, ◌≤◌, ℤ, Bool, true, false, List, [], ◌∷◌, ◌++◌, length, map, Option, Some, None, Result, Ok, Err, refl, sym, ap, ap₂, ◌∙◌, subst, arith}
+use Rattle.std.specs.Prelude.{if◌then◌else◌}
 use Rattle.std.specs.Option.{option_map, option_and_then}
 use Rattle.std.proofs.lemmas.Grind.{get_or-set_at}
 use Rattle.std.proofs.lemmas.Option.{slice_get_within}
@@ -12,18 +12,17 @@ use Rattle.plcx_funcs.specs.declared.func.Func.{Func}
 use Rattle.plcx_funcs.specs.declared.func.Func.TheVariants as func
 use Rattle.plcx_funcs.specs.Names.{function_named}
 use Rattle.plcx_funcs.specs.Applied.{value, applied}
-use Rattle.plcx_meaning.specs.Base.{Path, Faulted, Ended, Stopped, then_do, Site}
+use Rattle.plcx_meaning.specs.Base.{Path, Ended, then_do, Site}
 use Rattle.plcx_meaning.specs.Tree.{Class, Local, Input, Output, InOut, Temp, Expression, Number, Name, Member, Apply, Not, Binary, Expressions, no_expression, expression}
 use Rattle.plcx_meaning.specs.Layout.{Variable, World, Meaning, Elementary, Composed, meaning}
-use Rattle.plcx_meaning.specs.Functions.{Answer, Given, Faulty, Missing, on_value, can_apply, out_type, group_of, answer, call_at, call_function, call_named}
+use Rattle.plcx_meaning.specs.Functions.{Answer, Given, Missing, can_apply, out_type, group_of, answer, call_at, call_function, call_named}
 use Rattle.plcx_meaning.specs.Execute.{Referent, Temporary, Kept, Bound, Instance, Unknown, referent, TextState, Frame, read as read_name, read_member, read_output, function_of, value_of, values_of}
 use Rattle.plcx_meaning.specs.Typed.{referent_type, read_type, member_type, is_operator, type_at, result_type, call_type, expression_type, expression_types, variable_in, part_in}
 use Rattle.plcx_meaning.proofs.Stuck.{types_of, and_then_some}
 use Rattle.plcx_steps.specs.declared.program.Operand.TheVariants.{Leaf, InOut as Bound_at}
-use Rattle.plcx_steps.specs.declared.program.Source.{Source}
 use Rattle.plcx_steps.specs.declared.program.Source.TheVariants.{Wire}
 use Rattle.plcx_steps.specs.declared.program.Argument.{Argument}
-use Rattle.plcx_steps.specs.Numbered.{Here, no_value, value_at, number_at, source_at, read, argument_at, arguments_at, set_wire, with_value}
+use Rattle.plcx_steps.specs.Numbered.{Here, no_value, read, argument_at, arguments_at, set_wire, with_value}
 use Rattle.plcx_steps.proofs.Typing.{arguments_typed}
 use Rattle.plcx_numbered.specs.Right.{HasAt}
 use Rattle.plcx_numbered.proofs.Elements.{at_parts}

@@ -111,7 +111,7 @@ abbrev mutual
       lines_of c a w p
       ++ (lines_of c (a + length (arguments_of c w p)) (w + wires_of p) q
       ++ call_lines (function_of op) (argument c w p ∷ argument c (w + wires_of p) q ∷ [])
-          (a + length (arguments_of c w p) + length (arguments_of c (w + wires_of p) q)) (w + (wires_of p + wires_of q)))
+      (a + length (arguments_of c w p) + length (arguments_of c (w + wires_of p) q)) (w + (wires_of p + wires_of q)))
 
   pub all_lines : Numbering → (first wire : ℕ) → Expressions → List Line
   all_lines c a w no_expression = []

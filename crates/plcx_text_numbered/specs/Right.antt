@@ -1,10 +1,9 @@
 -- When the numbers of an expression are right: what each has to be the number of, where the expression mentions it.
-use Rattle.std.specs.Prelude.{◌≡◌, ℕ, ◌+◌, List, [], ◌∷◌, Some, length, slice_get, slice_range}
-use Rattle.plcx_types.specs.declared.ty.Ty.{Ty}
+use Rattle.std.specs.Prelude.{◌≡◌, ℕ, List, [], ◌∷◌, Some, slice_get}
 use Rattle.plcx_types.specs.Name.{in_lower_case}
 use Rattle.plcx_meaning.specs.Base.{Path}
 use Rattle.plcx_meaning.specs.Tree.{Expression, Number, Name, Member, Apply, Not, Binary, Expressions, no_expression, expression}
-use Rattle.plcx_meaning.specs.Execute.{Referent, Temporary, Kept, Bound, Instance, Unknown, referent}
+use Rattle.plcx_meaning.specs.Execute.{Referent, Temporary, Kept, Bound, referent}
 use Rattle.plcx_meaning.specs.Typed.{variable_in}
 use Rattle.plcx_steps.specs.declared.program.Operand.TheVariants.{Leaf, InOut}
 use Rattle.plcx_text_numbered.specs.Prepared.{Place, Held, Stored, Numbering}

@@ -218,7 +218,7 @@ pub record IsPou (unit : List PouText) (plans : List PouPlan) (program : Program
   pub is : slice_get text.sections.items entry.section ≡ Some section
   pub lines :
       AreLines (record { unit = unit; plans = plans; own = own; program = program; text = text; num = num; spare = spare; width = length entry.wires.items })
-          entry.section own.pou.body section.lines.items
+      entry.section own.pou.body section.lines.items
 
 -- a text is prepared of a unit
 pub record IsPrepared (unit : List PouText) (plans : List PouPlan) (program : Program) (text : Text) : Type 0 where
