@@ -1,0 +1,4 @@
+pub mod Numbered
+pub mod Sound
+pub mod Typed
+pub mod Running
