@@ -1,7 +1,0 @@
-pub mod Runs
-pub mod Values
-pub mod Alikes
-pub mod Assigning
-pub mod Calling
-pub mod Statements
-pub mod Bodies

@@ -1,6 +1,0 @@
-pub mod Agreeing
-pub mod Setting
-pub mod Prepared
-pub mod Right
-pub mod Statements
-pub mod Laws
