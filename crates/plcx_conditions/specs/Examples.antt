@@ -20,7 +20,7 @@ abbrev pub name_of_a_timer : List Pou
 name_of_a_timer =
     pou FunctionBlock (word (codes "TON") 15) [] []
     ∷ pou Program (word (codes "M") 46) (block Local Plain (of_type (word (codes "T") 52) (word (codes "TON") 56) ∷ []) ∷ [])
-        (Call (word (codes "T") 69) (argument (word (codes "IN") 71) (Number (literal ty.Bool (pos 1) 77)) ∷ []) ∷ [])
+    (Call (word (codes "T") 69) (argument (word (codes "IN") 71) (Number (literal ty.Bool (pos 1) 77)) ∷ []) ∷ [])
     ∷ []
 
 -- A program is no type.
@@ -35,8 +35,8 @@ program_as_a_type =
 abbrev pub doubled_variable : List Pou
 doubled_variable =
     pou Program (word (codes "M") 8) (block Local Plain (of_type (word (codes "A") 14) (word (codes "BOOL") 18)
-        ∷ of_type (word (codes "a") 24) (word (codes "INT") 28) ∷ []) ∷ []) (Assign (word (codes "A") 41) (Number (literal ty.Bool (pos 1) 46))
-        ∷ [])
+    ∷ of_type (word (codes "a") 24) (word (codes "INT") 28) ∷ []) ∷ []) (Assign (word (codes "A") 41) (Number (literal ty.Bool (pos 1) 46))
+    ∷ [])
     ∷ []
 
 -- An instance is no value.
@@ -44,7 +44,7 @@ doubled_variable =
 abbrev pub instance_as_a_value : List Pou
 instance_as_a_value =
     pou Program (word (codes "M") 8) (block Local Plain (of_type (word (codes "T") 14) (word (codes "TON") 18)
-        ∷ of_type (word (codes "X") 23) (word (codes "BOOL") 27) ∷ []) ∷ []) (Assign (word (codes "X") 41) (Name (word (codes "T") 46)) ∷ [])
+    ∷ of_type (word (codes "X") 23) (word (codes "BOOL") 27) ∷ []) ∷ []) (Assign (word (codes "X") 41) (Name (word (codes "T") 46)) ∷ [])
     ∷ []
 
 -- A variable of an elementary type is neither called nor has members.
@@ -52,7 +52,7 @@ instance_as_a_value =
 abbrev pub no_instance : List Pou
 no_instance =
     pou Program (word (codes "M") 8) (block Local Plain (of_type (word (codes "X") 14) (word (codes "BOOL") 18) ∷ []) ∷ [])
-        (Assign (word (codes "X") 32) (Member (word (codes "X") 37) (word (codes "Q") 39)) ∷ Call (word (codes "X") 42) [] ∷ [])
+    (Assign (word (codes "X") 32) (Member (word (codes "X") 37) (word (codes "Q") 39)) ∷ Call (word (codes "X") 42) [] ∷ [])
     ∷ []
 
 -- Only outputs of an instance can be read.
@@ -60,9 +60,9 @@ no_instance =
 abbrev pub input_as_a_member : List Pou
 input_as_a_member =
     pou Program (word (codes "M") 8) (block Local Plain (of_type (word (codes "T") 14) (word (codes "TON") 18)
-        ∷ of_type (word (codes "X") 23) (word (codes "BOOL") 27) ∷ []) ∷ [])
-        (Assign (word (codes "X") 41) (Member (word (codes "T") 46) (word (codes "IN") 48))
-        ∷ Assign (word (codes "X") 52) (Member (word (codes "T") 57) (word (codes "RUN") 59)) ∷ [])
+    ∷ of_type (word (codes "X") 23) (word (codes "BOOL") 27) ∷ []) ∷ [])
+    (Assign (word (codes "X") 41) (Member (word (codes "T") 46) (word (codes "IN") 48))
+    ∷ Assign (word (codes "X") 52) (Member (word (codes "T") 57) (word (codes "RUN") 59)) ∷ [])
     ∷ []
 
 -- Of a variable of an unknown type nothing more is said.
@@ -70,10 +70,10 @@ input_as_a_member =
 abbrev pub unknown_type : List Pou
 unknown_type =
     pou Program (word (codes "M") 8) (block Local Plain (of_type (word (codes "K") 14) (word (codes "Q") 18)
-        ∷ of_type (word (codes "X") 21) (word (codes "INT") 25) ∷ []) ∷ []) (Call (word (codes "K") 38)
-        (argument (word (codes "V") 40) (Name (word (codes "X") 45)) ∷ argument (word (codes "W") 48) (Name (word (codes "X") 53)) ∷ [])
-        ∷ Assign (word (codes "X") 57) (Member (word (codes "K") 62) (word (codes "V") 64))
-        ∷ Assign (word (codes "X") 67) (Binary Plus (Name (word (codes "K") 72)) (Name (word (codes "X") 76))) ∷ [])
+    ∷ of_type (word (codes "X") 21) (word (codes "INT") 25) ∷ []) ∷ []) (Call (word (codes "K") 38)
+    (argument (word (codes "V") 40) (Name (word (codes "X") 45)) ∷ argument (word (codes "W") 48) (Name (word (codes "X") 53)) ∷ [])
+    ∷ Assign (word (codes "X") 57) (Member (word (codes "K") 62) (word (codes "V") 64))
+    ∷ Assign (word (codes "X") 67) (Binary Plus (Name (word (codes "K") 72)) (Name (word (codes "X") 76))) ∷ [])
     ∷ []
 
 -- Types of arguments are tested where all are known, their number always.
@@ -81,10 +81,10 @@ unknown_type =
 abbrev pub unknown_argument : List Pou
 unknown_argument =
     pou Program (word (codes "M") 8) (block Local Plain (of_type (word (codes "X") 14) (word (codes "INT") 18) ∷ []) ∷ [])
-        (Assign (word (codes "X") 31) (Apply (word (codes "MAX") 36) (expressions (Name (word (codes "X") 40) ∷ Name (word (codes "Y") 43)
-        ∷ Number (literal ty.Bool (pos 1) 46) ∷ [])))
-        ∷ Assign (word (codes "X") 53) (Apply (word (codes "ABS") 58) (expressions (Name (word (codes "Y") 62) ∷ Name (word (codes "X") 65) ∷ [])))
-        ∷ [])
+    (Assign (word (codes "X") 31) (Apply (word (codes "MAX") 36) (expressions (Name (word (codes "X") 40) ∷ Name (word (codes "Y") 43)
+    ∷ Number (literal ty.Bool (pos 1) 46) ∷ [])))
+    ∷ Assign (word (codes "X") 53) (Apply (word (codes "ABS") 58) (expressions (Name (word (codes "Y") 62) ∷ Name (word (codes "X") 65) ∷ [])))
+    ∷ [])
     ∷ []
 
 -- A function that is written by an operator is unknown as a call.
@@ -92,8 +92,8 @@ unknown_argument =
 abbrev pub operator_by_name : List Pou
 operator_by_name =
     pou Program (word (codes "M") 8) (block Local Plain (of_type (word (codes "X") 14) (word (codes "INT") 18) ∷ []) ∷ [])
-        (Assign (word (codes "X") 31) (Apply (word (codes "ADD") 36) (expressions (Name (word (codes "X") 40) ∷ Number (literal ty.Bool (pos 1) 43)
-        ∷ []))) ∷ [])
+    (Assign (word (codes "X") 31) (Apply (word (codes "ADD") 36) (expressions (Name (word (codes "X") 40) ∷ Number (literal ty.Bool (pos 1) 43)
+    ∷ []))) ∷ [])
     ∷ []
 
 -- The place of an expression is its first token that is no bracket.
@@ -101,9 +101,9 @@ operator_by_name =
 abbrev pub brackets : List Pou
 brackets =
     pou Program (word (codes "M") 8) (block Local Plain (of_type (word (codes "X") 14) (word (codes "INT") 18)
-        ∷ of_type (word (codes "Y") 23) (word (codes "DINT") 27) ∷ []) ∷ [])
-        (Assign (word (codes "X") 41) (Binary Times (Binary Plus (Name (word (codes "X") 49)) (Name (word (codes "Y") 54))) (Name (word (codes "X") 60)))
-        ∷ If (Not 66 (Name (word (codes "X") 71))) (statements []) ∷ [])
+    ∷ of_type (word (codes "Y") 23) (word (codes "DINT") 27) ∷ []) ∷ [])
+    (Assign (word (codes "X") 41) (Binary Times (Binary Plus (Name (word (codes "X") 49)) (Name (word (codes "Y") 54))) (Name (word (codes "X") 60)))
+    ∷ If (Not 66 (Name (word (codes "X") 71))) (statements []) ∷ [])
     ∷ []
 
 -- An expression that breaks a condition has no type, so that nothing is said of what it goes to.
@@ -111,8 +111,8 @@ brackets =
 abbrev pub type_is_told_once : List Pou
 type_is_told_once =
     pou Program (word (codes "M") 8) (block Local Plain (of_type (word (codes "X") 14) (word (codes "INT") 18)
-        ∷ of_type (word (codes "B") 23) (word (codes "BOOL") 27) ∷ []) ∷ [])
-        (Assign (word (codes "B") 41) (Binary Plus (Name (word (codes "X") 46)) (Number (literal ty.Bool (pos 1) 50))) ∷ [])
+    ∷ of_type (word (codes "B") 23) (word (codes "BOOL") 27) ∷ []) ∷ [])
+    (Assign (word (codes "B") 41) (Binary Plus (Name (word (codes "X") 46)) (Number (literal ty.Bool (pos 1) 50))) ∷ [])
     ∷ []
 
 -- A formal is named twice, also where the instance is unknown.
@@ -120,10 +120,10 @@ type_is_told_once =
 abbrev pub formal_twice : List Pou
 formal_twice =
     pou Program (word (codes "M") 8) (block Local Plain (of_type (word (codes "X") 14) (word (codes "BOOL") 18)
-        ∷ of_type (word (codes "T") 24) (word (codes "TON") 28) ∷ []) ∷ []) (Call (word (codes "T") 41)
-        (argument (word (codes "IN") 43) (Name (word (codes "X") 49)) ∷ argument (word (codes "in") 52) (Name (word (codes "X") 58)) ∷ [])
-        ∷ Call (word (codes "U") 62) (argument (word (codes "IN") 64) (Name (word (codes "X") 70))
-        ∷ argument (word (codes "IN") 73) (Name (word (codes "X") 79)) ∷ []) ∷ [])
+    ∷ of_type (word (codes "T") 24) (word (codes "TON") 28) ∷ []) ∷ []) (Call (word (codes "T") 41)
+    (argument (word (codes "IN") 43) (Name (word (codes "X") 49)) ∷ argument (word (codes "in") 52) (Name (word (codes "X") 58)) ∷ [])
+    ∷ Call (word (codes "U") 62) (argument (word (codes "IN") 64) (Name (word (codes "X") 70))
+    ∷ argument (word (codes "IN") 73) (Name (word (codes "X") 79)) ∷ []) ∷ [])
     ∷ []
 
 -- A formal that is an output, or hidden, or not there.
@@ -131,9 +131,9 @@ formal_twice =
 abbrev pub unknown_formal : List Pou
 unknown_formal =
     pou Program (word (codes "M") 8) (block Local Plain (of_type (word (codes "X") 14) (word (codes "BOOL") 18)
-        ∷ of_type (word (codes "T") 24) (word (codes "TON") 28) ∷ []) ∷ []) (Call (word (codes "T") 41)
-        (argument (word (codes "Q") 43) (Name (word (codes "X") 48)) ∷ argument (word (codes "RUN") 51) (Name (word (codes "X") 58))
-        ∷ argument (word (codes "X") 61) (Name (word (codes "X") 66)) ∷ []) ∷ [])
+    ∷ of_type (word (codes "T") 24) (word (codes "TON") 28) ∷ []) ∷ []) (Call (word (codes "T") 41)
+    (argument (word (codes "Q") 43) (Name (word (codes "X") 48)) ∷ argument (word (codes "RUN") 51) (Name (word (codes "X") 58))
+    ∷ argument (word (codes "X") 61) (Name (word (codes "X") 66)) ∷ []) ∷ [])
     ∷ []
 
 -- An in-out wants the name of a variable of its type that can be stored to and is no temporary.
@@ -143,13 +143,13 @@ abbrev pub in_outs : List Pou
 in_outs =
     pou FunctionBlock (word (codes "F") 15) (block InOut Plain (of_type (word (codes "V") 28) (word (codes "INT") 32) ∷ []) ∷ []) []
     ∷ pou Program (word (codes "M") 72) (block Local Plain (of_type (word (codes "X") 78) (word (codes "INT") 82)
-        ∷ of_type (word (codes "D") 87) (word (codes "DINT") 91) ∷ of_type (word (codes "K") 97) (word (codes "F") 101) ∷ [])
-        ∷ block Temp Plain (of_type (word (codes "Y") 121) (word (codes "INT") 125) ∷ []) ∷ []) (Call (word (codes "K") 138)
-        (argument (word (codes "V") 140) (Name (word (codes "X") 145)) ∷ []) ∷ Call (word (codes "K") 149)
-        (argument (word (codes "V") 151) (Name (word (codes "Y") 156)) ∷ []) ∷ Call (word (codes "K") 160)
-        (argument (word (codes "V") 162) (Binary Plus (Name (word (codes "X") 167)) (Name (word (codes "X") 171))) ∷ [])
-        ∷ Call (word (codes "K") 175) (argument (word (codes "V") 177) (Name (word (codes "D") 182)) ∷ []) ∷ Call (word (codes "K") 186)
-        (argument (word (codes "V") 188) (Name (word (codes "K") 193)) ∷ []) ∷ Call (word (codes "K") 197) [] ∷ [])
+    ∷ of_type (word (codes "D") 87) (word (codes "DINT") 91) ∷ of_type (word (codes "K") 97) (word (codes "F") 101) ∷ [])
+    ∷ block Temp Plain (of_type (word (codes "Y") 121) (word (codes "INT") 125) ∷ []) ∷ []) (Call (word (codes "K") 138)
+    (argument (word (codes "V") 140) (Name (word (codes "X") 145)) ∷ []) ∷ Call (word (codes "K") 149)
+    (argument (word (codes "V") 151) (Name (word (codes "Y") 156)) ∷ []) ∷ Call (word (codes "K") 160)
+    (argument (word (codes "V") 162) (Binary Plus (Name (word (codes "X") 167)) (Name (word (codes "X") 171))) ∷ [])
+    ∷ Call (word (codes "K") 175) (argument (word (codes "V") 177) (Name (word (codes "D") 182)) ∷ []) ∷ Call (word (codes "K") 186)
+    (argument (word (codes "V") 188) (Name (word (codes "K") 193)) ∷ []) ∷ Call (word (codes "K") 197) [] ∷ [])
     ∷ []
 
 -- Two conditions at one place: the name comes first.
@@ -158,8 +158,8 @@ abbrev pub unknown_in_an_in_out : List Pou
 unknown_in_an_in_out =
     pou FunctionBlock (word (codes "F") 15) (block InOut Plain (of_type (word (codes "V") 28) (word (codes "INT") 32) ∷ []) ∷ []) []
     ∷ pou Program (word (codes "M") 72) (block Local Plain (of_type (word (codes "X") 78) (word (codes "INT") 82)
-        ∷ of_type (word (codes "K") 87) (word (codes "F") 91) ∷ []) ∷ []) (Call (word (codes "K") 102)
-        (argument (word (codes "V") 104) (Binary Plus (Name (word (codes "Y") 109)) (Name (word (codes "X") 113))) ∷ []) ∷ [])
+    ∷ of_type (word (codes "K") 87) (word (codes "F") 91) ∷ []) ∷ []) (Call (word (codes "K") 102)
+    (argument (word (codes "V") 104) (Binary Plus (Name (word (codes "Y") 109)) (Name (word (codes "X") 113))) ∷ []) ∷ [])
     ∷ []
 
 -- A name that is no in-out by its first declaration wants no argument.
@@ -168,7 +168,7 @@ abbrev pub doubled_in_out : List Pou
 doubled_in_out =
     pou Program (word (codes "M") 8) (block Local Plain (of_type (word (codes "K") 14) (word (codes "F") 18) ∷ []) ∷ []) (Call (word (codes "K") 29) [] ∷ [])
     ∷ pou FunctionBlock (word (codes "F") 61) (block Local Plain (of_type (word (codes "V") 67) (word (codes "INT") 71) ∷ [])
-        ∷ block InOut Plain (of_type (word (codes "V") 95) (word (codes "INT") 99) ∷ []) ∷ []) []
+    ∷ block InOut Plain (of_type (word (codes "V") 95) (word (codes "INT") 99) ∷ []) ∷ []) []
     ∷ []
 
 -- A formal of an instance's type takes no value; the variable stands where no instance may.
@@ -176,8 +176,8 @@ doubled_in_out =
 abbrev pub instance_as_an_input : List Pou
 instance_as_an_input =
     pou Program (word (codes "M") 8) (block Local Plain (of_type (word (codes "X") 14) (word (codes "BOOL") 18)
-        ∷ of_type (word (codes "K") 24) (word (codes "F") 28) ∷ []) ∷ []) (Call (word (codes "K") 39)
-        (argument (word (codes "V") 41) (Name (word (codes "X") 46)) ∷ []) ∷ [])
+    ∷ of_type (word (codes "K") 24) (word (codes "F") 28) ∷ []) ∷ []) (Call (word (codes "K") 39)
+    (argument (word (codes "V") 41) (Name (word (codes "X") 46)) ∷ []) ∷ [])
     ∷ pou FunctionBlock (word (codes "F") 77) (block Input Plain (of_type (word (codes "V") 89) (word (codes "TON") 93) ∷ []) ∷ []) []
     ∷ []
 
@@ -186,9 +186,9 @@ instance_as_an_input =
 abbrev pub initials : List Pou
 initials =
     pou Program (word (codes "M") 8) (block Local Plain (with_initial (word (codes "A") 14) (word (codes "INT") 18) (literal ty.Sint (pos 1) 25)
-        ∷ with_initial (word (codes "B") 33) (word (codes "SINT") 37) (literal ty.Sint (pos 128) 45)
-        ∷ with_initial (word (codes "C") 55) (word (codes "INT") 59) (literal ty.Sint (pos 128) 66)
-        ∷ with_initial (word (codes "T") 76) (word (codes "TON") 80) (literal ty.Bool (pos 1) 87) ∷ []) ∷ []) []
+    ∷ with_initial (word (codes "B") 33) (word (codes "SINT") 37) (literal ty.Sint (pos 128) 45)
+    ∷ with_initial (word (codes "C") 55) (word (codes "INT") 59) (literal ty.Sint (pos 128) 66)
+    ∷ with_initial (word (codes "T") 76) (word (codes "TON") 80) (literal ty.Bool (pos 1) 87) ∷ []) ∷ []) []
     ∷ []
 
 -- Where no instance and no in-out may stand.
@@ -196,10 +196,10 @@ initials =
 abbrev pub standing_places : List Pou
 standing_places =
     pou Program (word (codes "M") 8) (block Input Plain (of_type (word (codes "S") 20) (word (codes "TON") 24) ∷ [])
-        ∷ block Local Constant (of_type (word (codes "T") 50) (word (codes "TON") 54) ∷ [])
-        ∷ block Local Retain (of_type (word (codes "U") 78) (word (codes "TON") 82) ∷ [])
-        ∷ block Temp Plain (of_type (word (codes "W") 104) (word (codes "TON") 108) ∷ [])
-        ∷ block InOut Plain (of_type (word (codes "V") 132) (word (codes "INT") 136) ∷ []) ∷ []) []
+    ∷ block Local Constant (of_type (word (codes "T") 50) (word (codes "TON") 54) ∷ [])
+    ∷ block Local Retain (of_type (word (codes "U") 78) (word (codes "TON") 82) ∷ [])
+    ∷ block Temp Plain (of_type (word (codes "W") 104) (word (codes "TON") 108) ∷ [])
+    ∷ block InOut Plain (of_type (word (codes "V") 132) (word (codes "INT") 136) ∷ []) ∷ []) []
     ∷ []
 
 -- An input, a constant and an instance are no targets.
@@ -207,11 +207,11 @@ standing_places =
 abbrev pub targets : List Pou
 targets =
     pou FunctionBlock (word (codes "F") 15) (block Input Plain (of_type (word (codes "I") 27) (word (codes "INT") 31) ∷ [])
-        ∷ block Local Constant (of_type (word (codes "C") 57) (word (codes "INT") 61) ∷ [])
-        ∷ block Local Plain (of_type (word (codes "T") 78) (word (codes "TON") 82) ∷ []) ∷ [])
-        (Assign (word (codes "I") 95) (Number (literal ty.Int (pos 1) 100)) ∷ Assign (word (codes "C") 107) (Number (literal ty.Int (pos 1) 112))
-        ∷ Assign (word (codes "T") 119) (Number (literal ty.Bool (pos 1) 124))
-        ∷ Assign (word (codes "U") 130) (Number (literal ty.Bool (pos 1) 135)) ∷ [])
+    ∷ block Local Constant (of_type (word (codes "C") 57) (word (codes "INT") 61) ∷ [])
+    ∷ block Local Plain (of_type (word (codes "T") 78) (word (codes "TON") 82) ∷ []) ∷ [])
+    (Assign (word (codes "I") 95) (Number (literal ty.Int (pos 1) 100)) ∷ Assign (word (codes "C") 107) (Number (literal ty.Int (pos 1) 112))
+    ∷ Assign (word (codes "T") 119) (Number (literal ty.Bool (pos 1) 124))
+    ∷ Assign (word (codes "U") 130) (Number (literal ty.Bool (pos 1) 135)) ∷ [])
     ∷ []
 
 -- Equal labels and one that is too great.
@@ -219,7 +219,7 @@ targets =
 abbrev pub labels : List Pou
 labels =
     pou Program (word (codes "M") 8) (block Local Plain (of_type (word (codes "D") 14) (word (codes "DINT") 18) ∷ []) ∷ [])
-        (Case (Name (word (codes "D") 37)) (arms (labelled 1 42 ∷ labelled 0 45 ∷ labelled 01 48 ∷ labelled 2147483648 52 ∷ [])) ∷ [])
+    (Case (Name (word (codes "D") 37)) (arms (labelled 1 42 ∷ labelled 0 45 ∷ labelled 01 48 ∷ labelled 2147483648 52 ∷ [])) ∷ [])
     ∷ []
 
 -- A chain without an end starts at each instance of the block, in whichever POU.
@@ -235,5 +235,5 @@ block_in_itself =
 abbrev pub doubled_in_a_chain : List Pou
 doubled_in_a_chain =
     pou FunctionBlock (word (codes "F") 15) (block Local Plain (of_type (word (codes "V") 21) (word (codes "INT") 25)
-        ∷ of_type (word (codes "V") 30) (word (codes "F") 34) ∷ []) ∷ []) []
+    ∷ of_type (word (codes "V") 30) (word (codes "F") 34) ∷ []) ∷ []) []
     ∷ []
