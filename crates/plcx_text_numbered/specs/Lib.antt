@@ -1,0 +1,6 @@
+pub mod Agreeing
+pub mod Setting
+pub mod Prepared
+pub mod Right
+pub mod Statements
+pub mod Laws
