@@ -47,7 +47,7 @@ lies_whole whole = record { paths = λ j x there. ap (slice_get whole) (zero-add
 module _ (whole : List Path) (apart : AreApart whole) (unit : List PouText) (plans : List PouPlan) (program : Program) (text : Text) (prepared : IsPrepared unit plans program text) (time : ℕ) where
   -- where the statements of a POU are prepared
   abbrev around : (own : PouPlan) (k : ℕ) → IsPou unit plans program text k own → Around
-  around own k h = record { unit = unit; plans = plans; own = own; program = program; text = text; num = h.num; spare = h.spare; width = length h.entry.wires.items }
+  around own k h = record { unit = unit; plans = plans; own = own; program = program; text = text; num = h.num; width = length h.entry.wires.items }
 
   standard_steps : (users : TextCalls) → StepsStandard time (with_standard time users)
   standard_steps users type kind site g h =
@@ -82,7 +82,7 @@ module _ (whole : List Path) (apart : AreApart whole) (unit : List PouText) (pla
       alike_from _ _ (ap F (sym h.scope))
       (alike_as _ _ (ap G h.begins ∙ ap H (s.2 n h.entry.wires.items))
       (alike_then _ _ _ _
-      (lines_alike whole apart c h.apart site k time at in_outs lies same_in_outs call (standard_steps (blocks_run levels time unit)) calls h.free own.pou.body h.entry.section s.0 h.section.lines.items s.1 h.lines
+      (lines_alike whole apart c h.apart site k time at in_outs lies same_in_outs call (standard_steps (blocks_run levels time unit)) calls own.pou.body h.entry.section s.0 h.section.lines.items s.1 h.lines
       g (fresh (variables_of own.pou.blocks)) n h.entry.wires.items a (record { frame = h.frame; width_is = refl }))
       (λ g' f m ws b i. both_end b tt)))
     where

@@ -218,19 +218,19 @@ module _ (whole : List Path) (apart : AreApart whole) (c : Around) (temporaries_
       alike_as _ _ (ap (λ ls. lines_do (section_does d c.text) c.text own_here ls n ws) u.are_lines ∙ last_line (section_does d c.text) c.text own_here _)
       (alike_then _ _ _ _ (calls below d le i args type lines u g n a) (λ h l m l' b r. both_end b fr))
 
-  pub call_alike : (call : TextCalls) → StepsStandard time call → CallsAlike call → length c.own.plan.temporaries ≤ c.spare → (below d : ℕ) → below ≤ d → (i : List ℕ) (args : List Argument) (lines : List Line) → IsCall c below i args lines
+  pub call_alike : (call : TextCalls) → StepsStandard time call → CallsAlike call → (below d : ℕ) → below ≤ d → (i : List ℕ) (args : List Argument) (lines : List Line) → IsCall c below i args lines
       → (g : TextState) (f : Frame) (n : Numbers) (ws : List Value) → Agree whole g n → own_frame f ws
       → Alike whole own_frame (call_runs i args (setting c.num.scope site) call g f) (lines_do (section_does d c.text) c.text own_here lines n ws)
-  call_alike call standard calls free below d le i args lines h g f n ws a fr =
+  call_alike call standard calls below d le i args lines h g f n ws a fr =
       let sections = section_does d c.text in
       let go : TextState → Outcome TextState Frame = λ s. then_do (call h.type (inner_site site i (bind args (setting c.num.scope site) i)) s) (λ t u. Ended t f) in
-      let more = store_lines c.num i c.spare args ++ h.called in
+      let more = store_lines c.num i h.wire args ++ h.called in
       alike_from _ _
       (ap (λ r. found (type_of_instance r) (λ type. if all_bound args (parts_of c.num.scope.world (variable_in c.num.scope i)) then store_arguments args (setting c.num.scope site) i g f g (λ s. then_do (call type (inner_site site i (bind args (setting c.num.scope site) i)) s) (λ t u. Ended t f)) else Stuck)) h.instance
       ∙ ap (λ b. if b then store_arguments args (setting c.num.scope site) i g f g go else Stuck) h.all)
       (alike_as _ _ (ap (λ ls. lines_do sections c.text own_here ls n ws) h.are_lines ∙ lines_append sections c.text own_here h.taken more n ws)
-      (taken_alike sections i args c.spare h.taken h.are_taken free g g f n ws a fr go (lines_do sections c.text own_here more)
+      (taken_alike sections i args h.wire h.taken h.are_taken h.free g g f n ws a fr go (lines_do sections c.text own_here more)
       (λ vs b.
-      let W = all_written sections i args c.spare h.taken h.are_taken g n vs h.called a in
+      let W = all_written sections i args h.wire h.taken h.are_taken g n vs h.called a in
       alike_as _ _ W.does
-      (block_alike call standard calls below d le i args h.type h.called h.callee (stored i args c.spare vs g) f W.new vs W.agrees (in_frame whole apart c temporaries_apart site k time at in_outs lies same_in_outs f c.spare ws vs free b fr)))))
+      (block_alike call standard calls below d le i args h.type h.called h.callee (stored i args h.wire vs g) f W.new vs W.agrees (in_frame whole apart c temporaries_apart site k time at in_outs lies same_in_outs f h.wire ws vs h.free b fr)))))

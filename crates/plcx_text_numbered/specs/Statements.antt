@@ -36,8 +36,7 @@ pub record PouPlan : Type 0 where
   pub level : ℕ
   pub plan : Plan
 
--- Where a statement is prepared: the unit with its plans, the POU's plan, what is prepared, the numbers, the first wire that holds no temporary, and how
--- many wires there are.
+-- Where a statement is prepared: the unit with its plans, the POU's plan, what is prepared, the numbers, and how many wires there are.
 pub record Around : Type 0 where
   pub unit : List PouText
   pub plans : List PouPlan
@@ -45,7 +44,6 @@ pub record Around : Type 0 where
   pub program : Program
   pub text : Text
   pub num : Numbering
-  pub spare : ℕ
   pub width : ℕ
 
 -- lines bring the value of an expression of a type into a source, whose wires begin with this one
@@ -58,6 +56,11 @@ pub record IsExpression (c : Around) (wire : ℕ) (e : Expression) (t : Ty) (lin
   pub room : wire + wires_of e ≤ c.width
   pub are_lines : lines ≡ lines_of c.num first wire e
   pub is_source : source ≡ source_of c.num wire e
+
+-- the same with wires from somewhere on
+pub record IsValue (c : Around) (e : Expression) (t : Ty) (lines : List Line) (source : Source) : Type 0 where
+  pub wire : ℕ
+  pub value : IsExpression c wire e t lines source
 
 -- ---- assignments
 
@@ -72,7 +75,7 @@ pub record IsAssign (c : Around) (x : List ℕ) (e : Expression) (lines : List L
   pub place : IsPlaceOf c.own.plan x (referent c.num.scope.world (variable_in c.num.scope x)) (c.num.place x)
   pub before : List Line
   pub source : Source
-  pub value : IsExpression c c.spare e type before source
+  pub value : IsValue c e type before source
   pub are_lines : lines ≡ before ++ store_line (c.num.place x) source ∷ []
 
 -- ---- calls
@@ -157,11 +160,13 @@ pub record IsCall (c : Around) (below : ℕ) (i : List ℕ) (args : List Argumen
   pub type : List ℕ
   pub instance : referent c.num.scope.world (variable_in c.num.scope i) ≡ Instance type
   pub all : all_bound args (parts_of c.num.scope.world (variable_in c.num.scope i)) ≡ true
+  pub wire : ℕ
+  pub free : length c.own.plan.temporaries ≤ wire
   pub taken : List Line
-  pub are_taken : AreTaken c i c.spare args taken
+  pub are_taken : AreTaken c i wire args taken
   pub called : List Line
   pub callee : IsBlock c i type called ⊎ IsUser c below i args type called
-  pub are_lines : lines ≡ taken ++ (store_lines c.num i c.spare args ++ called)
+  pub are_lines : lines ≡ taken ++ (store_lines c.num i wire args ++ called)
 
 -- ---- statements
 
@@ -179,13 +184,13 @@ abbrev mutual
   IsStatement c below (Call i args) lines = IsCall c below i args lines
   IsStatement c below (If e ss) lines =
       (before : List Line) × (source : Source) × (k : ℕ) × (inner : List Line) × (lines ≡ before ++ line.If source k ∷ [])
-      × IsExpression c c.spare e ty.Bool before source × IsSection c.text below k inner × AreStatements c k ss inner
+      × IsValue c e ty.Bool before source × IsSection c.text below k inner × AreStatements c k ss inner
   IsStatement c below (While e ss) lines =
       (before : List Line) × (source : Source) × (b : ℕ) × (k : ℕ) × (inner : List Line) × (lines ≡ line.While b source k ∷ [])
-      × IsExpression c c.spare e ty.Bool before source × IsSection c.text below b before × IsSection c.text below k inner × AreStatements c k ss inner
+      × IsValue c e ty.Bool before source × IsSection c.text below b before × IsSection c.text below k inner × AreStatements c k ss inner
   IsStatement c below (Case e arms) lines =
       (before : List Line) × (source : Source) × (first : ℕ) × (count : ℕ) × (lines ≡ before ++ line.Case source first count ∷ [])
-      × IsExpression c c.spare e ty.Dint before source × AreArms c below arms (slice_range c.text.arms.items first (first + count))
+      × IsValue c e ty.Dint before source × AreArms c below arms (slice_range c.text.arms.items first (first + count))
 
   pub AreStatements : Around → ℕ → Statements → List Line → Type 0
   AreStatements c below no_statement lines = lines ≡ []
@@ -207,17 +212,15 @@ AreLines c below (s ∷ ss) lines = (xs : List Line) × (ys : List Line) × (lin
 -- Where a POU begins: its wires are its temporaries as they begin, and others behind them, and its section has the lines of its body.
 pub record IsPou (unit : List PouText) (plans : List PouPlan) (program : Program) (text : Text) (k : ℕ) (own : PouPlan) : Type 0 where
   pub num : Numbering
-  pub spare : ℕ
   pub scope : num.scope ≡ scope_of unit own.pou
   pub apart : AreApart own.plan.temporaries
-  pub free : length own.plan.temporaries ≤ spare
   pub entry : Entry
   pub begins : slice_get text.entries.items k ≡ Some entry
   pub frame : SameFrame own.plan.temporaries (fresh (variables_of own.pou.blocks)) entry.wires.items
   pub section : Section
   pub is : slice_get text.sections.items entry.section ≡ Some section
   pub lines :
-      AreLines (record { unit = unit; plans = plans; own = own; program = program; text = text; num = num; spare = spare; width = length entry.wires.items })
+      AreLines (record { unit = unit; plans = plans; own = own; program = program; text = text; num = num; width = length entry.wires.items })
       entry.section own.pou.body section.lines.items
 
 -- a text is prepared of a unit
