@@ -1,30 +1,23 @@
 -- Sizes by levels.
 use Rattle.std.proofs.Common.{◌≡◌, ℕ, zero, suc, ◌+◌, ◌≤◌, ◌<◌, Bool, true, false, cond, List, [], ◌∷◌, Option, Some, None, map, drop, option_map, get_or, slice_get, replicate, length, refl, sym, ap, ap₂, subst, ◌∙◌, arith}
-use Rattle.std.specs.Prelude.{is_some, nat_lt, nat_le}
+use Rattle.std.specs.Prelude.{nat_lt, nat_le}
 use Rattle.std.specs.List.{sum_by}
 use Rattle.std.proofs.lemmas.Bool.Decides.{nat_tests}
 use Rattle.std.proofs.lemmas.List.Sums.{sum_by-cons}
 use Rattle.std.proofs.lemmas.List.{at_drop_more, at_drop_all}
-use Rattle.plcx_types.specs.declared.ty.Ty.{Ty}
 use Rattle.plcx_types.specs.Limits.{max_text_leaves}
-use Rattle.plcx_types.specs.Name.{in_lower_case}
-use Rattle.plcx_types.specs.TypeName.{type_named}
 use Rattle.plcx_std.specs.declared.kind.StdKind.{StdKind}
 use Rattle.plcx_std.specs.declared.kind.StdKind.TheVariants as kind
-use Rattle.plcx_std.specs.Kind.{kind_named}
-use Rattle.plcx_std.specs.Pins.{pins}
-use Rattle.plcx_meaning.specs.Tree as tree
-use Rattle.plcx_meaning.specs.Tree.{Class, Block}
-use Rattle.plcx_meaning.specs.Layout.{Variable, variables_of, World, Meaning, Elementary, Composed, meaning, is_kept}
+use Rattle.plcx_meaning.specs.Layout.{Variable, variables_of, World, Meaning, Elementary, Composed, is_kept}
 use Rattle.plcx_meaning.specs.Standard.{pin_blocks}
 use Rattle.plcx_meaning.specs.Ready.{variable_size, size}
 use Rattle.plcx_conditions.specs.Placed.{Pou, bare_pou, bare, Declared, declared, bare_variable}
-use Rattle.plcx_conditions.specs.Known.{block_named, block_alone, world_of}
+use Rattle.plcx_conditions.specs.Known.{world_of}
 use Rattle.plcx_conditions.specs.Declarations.{is_large}
 use Rattle.plcx_conditions.proofs.Units.{variables_bare}
 use Rattle.plcx_known.specs.declared.types.VarType.{VarType}
 use Rattle.plcx_known.specs.declared.types.VarType.TheVariants as type
-use Rattle.plcx_known.specs.Types.{place_named, block_at, block_type, composed_type, type_of, block_of, variables_in}
+use Rattle.plcx_known.specs.Types.{type_of, variables_in}
 use Rattle.plcx_known.specs.Owned.{Typed, typed, own_of}
 use Rattle.plcx_known.specs.Parts.{owners_of}
 use Rattle.plcx_known.specs.Sizes.{most, capped, size_at, pin_count, type_weight, weight, next_sizes, sizes}
@@ -188,14 +181,13 @@ pub one_grows : {X : Type 0} (f : X → Typed) (w : Typed → ℕ) (xs : List X)
     → capped (size + sum_by w (map f (drop i xs))) ≡ whole → (capped (after + sum_by w (map f (drop (i + 1) xs))) ≡ whole) × (after ≤ most)
 one_grows f w xs i x size more after whole less at weighs is h =
     let rest : ℕ = sum_by w (map f (drop (i + 1) xs)) in
-    let same : after ≡ capped (size + capped (w (f x))) = is ∙ ap (λ (n : ℕ). capped (size + n)) weighs in
-    (
+    let same : after ≡ capped (size + capped (w (f x))) = is ∙ ap (λ (n : ℕ). capped (size + n)) weighs in (
       ap (λ (n : ℕ). capped (n + rest)) same
-      ∙ grown_more size (w (f x)) rest
-      ∙ ap (λ (n : ℕ). capped (size + n)) (sym (sum_by-cons w (f x) (map f (drop (i + 1) xs))))
-      ∙ ap (λ y. capped (size + sum_by w (map f (y ∷ drop (i + 1) xs)))) at
-      ∙ sym (at_drop_more (λ ys. capped (size + sum_by w (map f ys))) xs i x less)
-      ∙ h,
+          ∙ grown_more size (w (f x)) rest
+          ∙ ap (λ (n : ℕ). capped (size + n)) (sym (sum_by-cons w (f x) (map f (drop (i + 1) xs))))
+          ∙ ap (λ y. capped (size + sum_by w (map f (y ∷ drop (i + 1) xs)))) at
+          ∙ sym (at_drop_more (λ ys. capped (size + sum_by w (map f ys))) xs i x less)
+          ∙ h,
       subst (λ (n : ℕ). n ≤ most) (sym is) (capped_most (size + more)),
     )
 

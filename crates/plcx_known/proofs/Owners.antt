@@ -1,6 +1,6 @@
 -- The variables of a POU by their names.
-use Rattle.std.proofs.Common.{◌≡◌, ℕ, Bool, List, [], ◌∷◌, Option, Some, None, map, take, option_map, option_and_then, slice_get, refl, sym, ap, ◌∙◌}
-use Rattle.std.specs.List.{find, list_any, position_from}
+use Rattle.std.proofs.Common.{◌≡◌, ℕ, Bool, List, Option, map, take, option_map, option_and_then, slice_get, sym, ap, ◌∙◌}
+use Rattle.std.specs.List.{list_any, position_from}
 use Rattle.plcx_conditions.specs.Known.{same_name}
 use Rattle.plcx_known.specs.declared.owner.Own.{Own}
 use Rattle.plcx_known.specs.Names.{first_place}

@@ -1,7 +1,6 @@
 -- The variables of instances by their names.
 use Rattle.std.proofs.Common.{◌≡◌, ℕ, Bool, true, false, cond, List, [], ◌∷◌, Option, Some, None, map, option_map, slice_get, refl, sym, ap, ap₂, ◌∙◌}
-use Rattle.std.specs.List.{find, filter, list_any}
-use Rattle.std.specs.Str.{bytes_eq}
+use Rattle.std.specs.List.{find, filter}
 use Rattle.plcx_types.specs.declared.ty.Ty.{Ty}
 use Rattle.plcx_types.specs.declared.ty.Ty.TheVariants as ty
 use Rattle.plcx_types.specs.Name.{in_lower_case}
@@ -12,7 +11,7 @@ use Rattle.plcx_std.specs.declared.pin.StdPin.{StdPin}
 use Rattle.plcx_std.specs.Pins.{Pin, pins, shown}
 use Rattle.plcx_meaning.specs.Tree as tree
 use Rattle.plcx_meaning.specs.Tree.{Class, Local, Input, Output, InOut, Temp}
-use Rattle.plcx_meaning.specs.Layout.{Variable, variable_named, variables_of, Elementary, Composed}
+use Rattle.plcx_meaning.specs.Layout.{Variable, variable_named, variables_of, Elementary}
 use Rattle.plcx_meaning.specs.Standard.{pin_blocks}
 use Rattle.plcx_st.specs.declared.tree.PouText.{PouText}
 use Rattle.plcx_conditions.specs.Placed.{Pou, bare_pou, bare, Declared, declared, bare_variable}
@@ -20,12 +19,10 @@ use Rattle.plcx_conditions.specs.Places.{placed_pou}
 use Rattle.plcx_conditions.specs.Known.{same_name, known, Seen, seen, seen_in}
 use Rattle.plcx_conditions.specs.Statements as statements
 use Rattle.plcx_conditions.proofs.Units.{variables_bare}
-use Rattle.plcx_known.specs.declared.types.VarType.{VarType}
 use Rattle.plcx_known.specs.declared.types.VarType.TheVariants as type
-use Rattle.plcx_known.specs.declared.seen.Seen as code
 use Rattle.plcx_known.specs.Unit.{placed_of, bare_of}
-use Rattle.plcx_known.specs.Types.{type_of, variables_in, parts_of, meaning_of}
-use Rattle.plcx_known.specs.Owned.{Typed, typed, own_of, name_of, variable_in, seen_of, shown_seen, is_in_out, names_in_out, in_out_names}
+use Rattle.plcx_known.specs.Types.{variables_in, parts_of}
+use Rattle.plcx_known.specs.Owned.{Typed, typed, own_of, name_of, variable_in, seen_of, is_in_out, names_in_out, in_out_names}
 use Rattle.plcx_known.specs.Parts.{owners_of, in_outs_among, in_outs_of, pin_variable}
 use Rattle.plcx_known.proofs.Places.{get_map, find_map}
 use Rattle.plcx_known.proofs.Standing.{known_is}
@@ -43,7 +40,6 @@ owners_are pous = map_twice placed_pou (own_of (bare_of pous)) pous
 -- the variables as they are declared
 abbrev pub bare_typed : Typed → Variable
 bare_typed t = bare_variable t.variable
-
 
 module _ (unit : List tree.PouText) where
   seen_is : (d : Declared) → seen unit (bare_variable d) ≡ seen_of unit (typed unit d)

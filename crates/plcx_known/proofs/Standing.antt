@@ -74,8 +74,8 @@ module _ (unit : List PouText) where
   meant_at (Some place) = elim (cases_at place) [
     | inl none ↦ ap (λ q. meaning_of unit (type_at place q)) none ∙ sym (ap (λ q. composed_by (block_of unit (type_at place q))) none)
     | inr h ↦
-      ap (λ q. meaning_of unit (type_at place q)) h.1.block ∙ ap (λ o. Some (Composed (variables_in o))) h.1.pou
-      ∙ sym (ap (λ q. composed_by (block_of unit (type_at place q))) h.1.block ∙ ap composed_by h.1.pou)
+        ap (λ q. meaning_of unit (type_at place q)) h.1.block ∙ ap (λ o. Some (Composed (variables_in o))) h.1.pou
+        ∙ sym (ap (λ q. composed_by (block_of unit (type_at place q))) h.1.block ∙ ap composed_by h.1.pou)
   ]
 
   variables_by : (o : Option PouText) → variables_of (blocks_in o) ≡ variables_in o

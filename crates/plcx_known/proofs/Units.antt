@@ -1,7 +1,7 @@
 -- What the names of types stand for.
-use Rattle.std.proofs.Common.{◌≡◌, ℕ, Bool, true, false, cond, ◌||◌, List, [], ◌∷◌, Option, Some, None, map, take, option_map, option_and_then, slice_get, refl, sym, ap, ◌∙◌}
+use Rattle.std.proofs.Common.{◌≡◌, ℕ, Bool, true, false, cond, List, [], ◌∷◌, Option, Some, None, map, take, option_map, option_and_then, slice_get, refl, sym, ap, ◌∙◌}
 use Rattle.std.specs.Prelude.{is_some}
-use Rattle.std.specs.List.{find, list_any, position_from}
+use Rattle.std.specs.List.{find, list_any}
 use Rattle.plcx_meaning.specs.Tree as tree
 use Rattle.plcx_st.specs.declared.tree.PouText.{PouText}
 use Rattle.plcx_st.specs.declared.tree.TextKind.{TextKind}

@@ -1,6 +1,5 @@
 -- The variables of a POU, each with what its type stands for.
 use Rattle.std.specs.Prelude.{◌≡◌, ℕ, Bool, true, false, List, Option, Some, None, map}
-use Rattle.std.specs.Option.{option_map}
 use Rattle.std.specs.List.{find, filter}
 use Rattle.plcx_meaning.specs.Tree.{InOut, PouText}
 use Rattle.plcx_st.specs.declared.tree.TextKind.{TextKind}

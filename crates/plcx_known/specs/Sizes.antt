@@ -1,5 +1,5 @@
 -- The leaves and instances of POUs, level by level.
-use Rattle.std.specs.Prelude.{ℕ, zero, suc, Bool, List, map, length, get_or, nat_le, if◌then◌else◌}
+use Rattle.std.specs.Prelude.{ℕ, zero, suc, List, map, length, get_or, nat_le, if◌then◌else◌}
 use Rattle.std.specs.List.{sum_by}
 use Rattle.plcx_types.specs.Limits.{max_text_leaves}
 use Rattle.plcx_std.specs.declared.kind.StdKind.{StdKind}

@@ -97,7 +97,8 @@ impl Chains {
 impl<'a> Scope<'a> {
     /// Where chains of instances are too long.
     pub fn chains(&self, alloc: Global) -> Result<Chains, NoMemory>
-        ensures starts { IfOk result (λ c. (v : Declared) → leads_on c.behind.items (type_of (bare_of self.now) v.declaration.ty.name) ≡ starts_chain max_instance_chain (bare_of self.now) (bare_variable v)) }
+        ensures starts { IfOk result (λ c. (v : Declared)
+            → leads_on c.behind.items (type_of (bare_of self.now) v.declaration.ty.name) ≡ starts_chain max_instance_chain (bare_of self.now) (bare_variable v)) }
         ensures any { IfOk result (λ c. c.any ≡ has_chain (bare_of self.now)) }
     {
         let owners = self.owners();

@@ -134,12 +134,7 @@ impl<'a> Names<'a> {
 
     /// Whether one of the names before a place is this one.
     #[tactic(auto, using(crate::proofs::Places::before_one))]
-    pub fn has_before(
-        &self,
-        alloc: Global,
-        place: usize,
-        name: &[u8],
-    ) -> Result<bool, NoMemory>
+    pub fn has_before(&self, alloc: Global, place: usize, name: &[u8]) -> Result<bool, NoMemory>
         ensures { IfOk result (λ has. has ≡ list_any (λ n. same_name n name.now) (take place self.now)) }
     {
         let first = self.place(alloc, name)?;

@@ -56,7 +56,9 @@ fn own_of<'a>(
     mark: Mark,
     decl: &'a Decl,
 ) -> Result<Own<'a>, NoMemory>
-    ensures { IfOk result (λ own. shown_own own ≡ (let d : Declared = record { class = class_meant class; mark = mark_meant mark; declaration = placed_declaration decl.now } in typed (bare_of pous.now) d)) }
+    ensures { IfOk result (λ own. shown_own own ≡ (
+        let d : Declared = record { class = class_meant class; mark = mark_meant mark; declaration = placed_declaration decl.now } in
+        typed (bare_of pous.now) d)) }
 {
     let ty = pous.type_of(alloc, decl.ty.name.text())?;
     Ok(Own {
@@ -84,11 +86,7 @@ fn with_block<'a>(
 }
 
 /// The variables of a POU, in the order of the text.
-fn variables_of<'a>(
-    alloc: Global,
-    pous: &Pous,
-    pou: &'a PouText,
-) -> Result<Vec<Own<'a>>, NoMemory>
+fn variables_of<'a>(alloc: Global, pous: &Pous, pou: &'a PouText) -> Result<Vec<Own<'a>>, NoMemory>
     ensures { IfOk result (λ all. map shown_own all.items ≡ own_of (bare_of pous.now) (placed_pou pou.now)) }
 {
     let mut found = Vec::new(alloc);
@@ -147,11 +145,7 @@ fn is_in_out(own: Option<Own>) -> bool
 }
 
 /// The names of variables that lead to in-outs.
-fn in_outs_of<'a>(
-    alloc: Global,
-    all: &[Own<'a>],
-    names: &Names,
-) -> Result<Vec<&'a [u8]>, NoMemory>
+fn in_outs_of<'a>(alloc: Global, all: &[Own<'a>], names: &Names) -> Result<Vec<&'a [u8]>, NoMemory>
     requires { AreNamed all.now names.now }
     ensures { IfOk result (λ found. map (λ s. s.now) found.items ≡ in_out_names (map shown_own all.now)) }
 {
@@ -213,12 +207,7 @@ impl<'a> Owner<'a> {
     }
 
     /// Whether an earlier variable than the one at a place has that name.
-    pub fn has_before(
-        &self,
-        alloc: Global,
-        place: usize,
-        name: &[u8],
-    ) -> Result<bool, NoMemory>
+    pub fn has_before(&self, alloc: Global, place: usize, name: &[u8]) -> Result<bool, NoMemory>
         ensures { IfOk result (λ has. has ≡ list_any (λ (t : Typed). same_name (name_of t) name.now) (take place self.now)) }
     {
         Ok(self.names.has_before(alloc, place, name)?)

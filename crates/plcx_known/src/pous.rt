@@ -1,10 +1,8 @@
 //! The POUs of a unit by their names, and what the names of types stand for.
 ghost use Rattle.std.specs.Prelude.{◌≡◌, ℕ, List, map, option_map, slice_get, IfOk};
-
 ghost use Rattle.plcx_st.specs.declared.tree.PouText.{PouText};
 ghost use Rattle.plcx_known.specs.Unit.{placed_of, bare_of};
 ghost use Rattle.plcx_known.specs.Types.{place_named, block_at, block_type, type_of};
-
 
 use crate::names::Names;
 use crate::types::VarType;
@@ -87,12 +85,7 @@ impl<'a> Pous<'a> {
     }
 
     /// Whether an earlier POU than the one at a place has that name.
-    pub fn has_before(
-        &self,
-        alloc: Global,
-        place: usize,
-        name: &[u8],
-    ) -> Result<bool, NoMemory>
+    pub fn has_before(&self, alloc: Global, place: usize, name: &[u8]) -> Result<bool, NoMemory>
         ensures { IfOk result (λ has. has ≡ list_any (λ (p : Pou). same_name p.name.name name.now) (take place (placed_of self.now))) }
     {
         Ok(self.names.has_before(alloc, place, name)?)

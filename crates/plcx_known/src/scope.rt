@@ -107,12 +107,7 @@ impl<'a> Scope<'a> {
     }
 
     #[tactic(auto, using(crate::proofs::Parts::block_parts, crate::proofs::Parts::no_block_parts))]
-    fn block_part(
-        &self,
-        alloc: Global,
-        place: usize,
-        name: &[u8],
-    ) -> Result<Option<Seen>, NoMemory>
+    fn block_part(&self, alloc: Global, place: usize, name: &[u8]) -> Result<Option<Seen>, NoMemory>
         ensures { IfOk result (λ part. option_map (shown_seen (bare_of self.now)) part ≡ seen_in (bare_of self.now) (parts_of (bare_of self.now) (Block place)) name.now) }
     {
         match self.owner(place) {
@@ -122,12 +117,7 @@ impl<'a> Scope<'a> {
     }
 
     /// What a name leads to among the variables of an instance of a type.
-    pub fn part(
-        &self,
-        alloc: Global,
-        ty: VarType,
-        name: &[u8],
-    ) -> Result<Option<Seen>, NoMemory>
+    pub fn part(&self, alloc: Global, ty: VarType, name: &[u8]) -> Result<Option<Seen>, NoMemory>
         ensures { IfOk result (λ part. option_map (shown_seen (bare_of self.now)) part ≡ seen_in (bare_of self.now) (parts_of (bare_of self.now) ty) name.now) }
     {
         match ty {

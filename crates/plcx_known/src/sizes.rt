@@ -45,13 +45,7 @@ fn inside(depth: usize, sizes: &[usize], ty: VarType) -> usize
 {
     match ty {
         VarType::Unknown | VarType::Elementary(_) => 0,
-        VarType::Standard(kind) => {
-            if depth == 0 {
-                0
-            } else {
-                pins(kind).len()
-            }
-        }
+        VarType::Standard(kind) => { if depth == 0 { 0 } else { pins(kind).len() } }
         VarType::Block(place) => size_at(sizes, place),
     }
 }

@@ -1,5 +1,4 @@
 use Rattle.std.proofs.Common.{◌≡◌, ◌++◌, drop, map}
-use Rattle.plcx_st.specs.declared.tree.Decl.{Decl}
 use Rattle.plcx_st.specs.Meant.{class_meant, mark_meant}
 use Rattle.plcx_conditions.specs.Placed.{Declaration, Declared}
 use Rattle.plcx_conditions.specs.Places.{placed_declaration}
