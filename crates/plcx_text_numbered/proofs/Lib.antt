@@ -5,3 +5,4 @@ pub mod Assigning
 pub mod Calling
 pub mod Statements
 pub mod Bodies
+pub mod Prepared
