@@ -1,5 +1,5 @@
 -- What is broken in statements, by what is found of their parts.
-use Rattle.std.proofs.Common.{◌≡◌, ℕ, ◌+◌, ◌<◌, Bool, true, false, cond, ◌&&◌, ◌||◌, not, List, [], ◌∷◌, ◌++◌, map, filter, take, drop, get_or, length, Option, Some, None, nat_eq, refl, sym, ap, ap₂, ◌∙◌, append_assoc}
+use Rattle.std.proofs.Common.{◌≡◌, ℕ, ◌+◌, ◌<◌, Bool, true, false, cond, ◌&&◌, ◌||◌, not, List, [], ◌∷◌, ◌++◌, map, filter, take, get_or, length, Option, Some, None, nat_eq, refl, sym, ap, ap₂, ◌∙◌, append_assoc}
 use Rattle.std.specs.List.{list_any}
 use Rattle.std.specs.Prelude.{nat_lt}
 use Rattle.plcx_types.specs.declared.ty.Ty.{Ty}
@@ -7,7 +7,6 @@ use Rattle.plcx_meaning.specs.Tree as tree
 use Rattle.plcx_meaning.specs.Layout.{Variable, Meaning, Elementary}
 use Rattle.plcx_st.specs.declared.tree.Arg.{Arg}
 use Rattle.plcx_st.specs.declared.tree.Arm.{Arm}
-use Rattle.plcx_st.specs.declared.tree.Stmt.{Stmt}
 use Rattle.plcx_conditions.specs.declared.broken.Condition.TheVariants as condition
 use Rattle.plcx_conditions.specs.declared.broken.Broken.{Broken}
 use Rattle.plcx_conditions.specs.Broken.{broken_if}

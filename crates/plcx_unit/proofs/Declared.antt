@@ -1,20 +1,16 @@
 -- What is broken in declarations and POUs, by what is found of their parts.
-use Rattle.std.proofs.Common.{◌≡◌, ℕ, zero, suc, ◌+◌, ◌<◌, Bool, true, false, cond, ◌||◌, not, List, [], ◌∷◌, ◌++◌, map, take, drop, get_or, length, slice_get, Option, Some, None, option_map, refl, sym, ap, ap₂, ◌∙◌, subst, arith}
+use Rattle.std.proofs.Common.{◌≡◌, ℕ, zero, suc, ◌+◌, ◌<◌, Bool, true, false, cond, not, List, [], ◌∷◌, ◌++◌, map, take, get_or, length, slice_get, Option, Some, None, option_map, refl, sym, ap, ap₂, ◌∙◌, subst, arith}
 use Rattle.std.specs.Prelude.{is_some}
 use Rattle.std.specs.List.{list_any, flat_map}
-use Rattle.plcx_types.specs.Lists.{Each}
 use Rattle.plcx_meaning.specs.Tree as tree
 use Rattle.plcx_meaning.specs.Tree.{PouKind}
 use Rattle.plcx_meaning.specs.Layout as layout
 use Rattle.plcx_st.specs.declared.tree.PouText.{PouText}
-use Rattle.plcx_conditions.specs.declared.broken.Broken.{Broken}
-use Rattle.plcx_conditions.specs.Placed as placed
 use Rattle.plcx_conditions.specs.Placed.{Word, Pou, bare_pou, bare, Declared, declared, Statement, statements}
-use Rattle.plcx_conditions.specs.Places.{placed_word, placed_statement, placed_pou}
+use Rattle.plcx_conditions.specs.Places.{placed_pou}
 use Rattle.plcx_conditions.specs.Known.{same_name, is_among, knows, known, Setting}
 use Rattle.plcx_conditions.specs.Statements.{broken_in_statement, broken_in_statements}
 use Rattle.plcx_conditions.specs.Declarations.{broken_in_variable, broken_in_variables, setting, broken_in_pou, broken_in_pous}
-use Rattle.plcx_conditions.proofs.Units.{variables_bare}
 use Rattle.plcx_known.specs.declared.types.VarType.{VarType}
 use Rattle.plcx_known.specs.declared.types.VarType.TheVariants as type
 use Rattle.plcx_known.specs.declared.owner.Own.{Own}

@@ -1,15 +1,12 @@
 -- A unit is refused exactly where it breaks something.
-use Rattle.std.proofs.Common.{◌≡◌, List, [], Option, Some, None, refl, sym, ap, subst, ◌∙◌}
-use Rattle.std.specs.List.{Contains}
+use Rattle.std.proofs.Common.{◌≡◌, List, [], Some, None, refl, sym, ap, subst, ◌∙◌}
 use Rattle.plcx_meaning.specs.Ready.{IsReady}
 use Rattle.plcx_st.specs.declared.tree.Unit as tree
 use Rattle.plcx_st.specs.Meant.{meant}
 use Rattle.plcx_conditions.specs.declared.broken.Condition.{Condition}
 use Rattle.plcx_conditions.specs.declared.broken.Condition.TheVariants as condition
 use Rattle.plcx_conditions.specs.declared.broken.Broken.{Broken}
-use Rattle.plcx_conditions.specs.Broken.{IsFirst}
 use Rattle.plcx_conditions.specs.First.{first_of}
-use Rattle.plcx_conditions.specs.Placed.{bare}
 use Rattle.plcx_conditions.specs.Places.{placed}
 use Rattle.plcx_conditions.specs.Declarations.{broken_in}
 use Rattle.plcx_conditions.proofs.Firsts.{nothing, first_is}

@@ -1,5 +1,5 @@
 -- The types of expressions, and what is broken in them, by what is found of their parts.
-use Rattle.std.proofs.Common.{◌≡◌, ℕ, ◌+◌, suc, List, [], ◌∷◌, ◌++◌, length, Vec, Global, Option, Some, None, map, option_map, option_and_then, refl, sym, ap, ap₂, ◌∙◌}
+use Rattle.std.proofs.Common.{◌≡◌, ℕ, suc, List, [], ◌∷◌, ◌++◌, length, Vec, Global, Option, Some, None, map, option_map, option_and_then, refl, sym, ap, ap₂, ◌∙◌}
 use Rattle.plcx_types.specs.declared.ty.Ty.{Ty}
 use Rattle.plcx_types.specs.Name.{in_lower_case}
 use Rattle.plcx_funcs.specs.declared.func.Func.{Func}
@@ -10,14 +10,14 @@ use Rattle.plcx_meaning.specs.Tree.{Class, Local, Input, Output, InOut, Temp, Op
 use Rattle.plcx_meaning.specs.Layout as layout
 use Rattle.plcx_meaning.specs.Layout.{Variable, variable_named, Meaning, Elementary, Composed, meaning, parts}
 use Rattle.plcx_meaning.specs.Execute.{function_of, elementary, referent_by, referent}
-use Rattle.plcx_meaning.specs.Typed.{referent_type, read_type, member_type, result_type, call_type, expression_type, expression_types}
+use Rattle.plcx_meaning.specs.Typed.{referent_type, read_type, member_type, result_type, call_type}
 use Rattle.plcx_conditions.specs.declared.broken.Condition.TheVariants as condition
 use Rattle.plcx_conditions.specs.declared.broken.Broken.{Broken}
 use Rattle.plcx_conditions.specs.Broken.{broken_if}
 use Rattle.plcx_conditions.specs.First.{sooner, first_of}
 use Rattle.plcx_conditions.specs.Placed as placed
 use Rattle.plcx_conditions.specs.Placed.{Word, Expression, Expressions, no_expression, expression, expressions, bare_expression, bare_expressions}
-use Rattle.plcx_conditions.specs.Known.{known, world_of, Seen, seen, seen_in, Setting, found, scope_in, type_in}
+use Rattle.plcx_conditions.specs.Known.{known, world_of, Seen, seen, Setting, found, type_in}
 use Rattle.plcx_conditions.specs.Expressions.{broken_in_name, broken_in_member, broken_in_call, broken_in_expression, broken_in_expressions, broken_in_operator, refuses, count_of, types_in}
 use Rattle.plcx_conditions.proofs.Firsts.{first_append, sooner_assoc, sooner_none}
 use Rattle.plcx_known.specs.declared.types.VarType.{VarType}

@@ -1,5 +1,5 @@
 -- What is found of declarations.
-use Rattle.std.specs.Prelude.{◌≡◌, ℕ, Bool, true, false, not, List, map}
+use Rattle.std.specs.Prelude.{◌≡◌, Bool, true, false, not, List, map}
 use Rattle.plcx_types.specs.Limits.{max_instance_chain}
 use Rattle.plcx_types.specs.Lists.{Each}
 use Rattle.plcx_st.specs.declared.tree.PouText as st

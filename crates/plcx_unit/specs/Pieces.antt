@@ -1,5 +1,5 @@
 -- What is found of the pieces of a unit.
-use Rattle.std.specs.Prelude.{◌≡◌, ℕ, Bool, true, false, List, [], ◌∷◌, ◌++◌, Vec, Option, Some, None, map, nat_eq, not}
+use Rattle.std.specs.Prelude.{◌≡◌, ℕ, Bool, List, [], ◌∷◌, ◌++◌, Vec, Option, Some, None, map, nat_eq, not}
 use Rattle.std.specs.Option.{option_map, option_and_then}
 use Rattle.std.specs.List.{list_any}
 use Rattle.std.specs.declared.alloc.Global.{Global}
@@ -7,9 +7,8 @@ use Rattle.plcx_types.specs.declared.ty.Ty.{Ty}
 use Rattle.plcx_st.specs.declared.tree.PouText.{PouText}
 use Rattle.plcx_st.specs.declared.tree.Arg.{Arg}
 use Rattle.plcx_st.specs.declared.tree.Arm.{Arm}
-use Rattle.plcx_meaning.specs.Tree.{Class, Output}
+use Rattle.plcx_meaning.specs.Tree.{Output}
 use Rattle.plcx_meaning.specs.Layout.{Meaning, Elementary, Composed}
-use Rattle.plcx_conditions.specs.declared.broken.Broken.{Broken}
 use Rattle.plcx_conditions.specs.First.{first_of}
 use Rattle.plcx_conditions.specs.Placed as placed
 use Rattle.plcx_conditions.specs.Placed.{Word, Labelled, Expression, expressions, bare_expression, start_of}

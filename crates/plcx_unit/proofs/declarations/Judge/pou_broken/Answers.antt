@@ -3,7 +3,7 @@ use Rattle.std.specs.List.{list_any}
 use Rattle.plcx_st.specs.declared.tree.PouText.{PouText}
 use Rattle.plcx_conditions.specs.First.{sooner}
 use Rattle.plcx_conditions.specs.Placed.{Pou}
-use Rattle.plcx_conditions.specs.Places.{placed_word, placed_pou}
+use Rattle.plcx_conditions.specs.Places.{placed_pou}
 use Rattle.plcx_conditions.specs.Known.{same_name}
 use Rattle.plcx_known.specs.Unit.{placed_of}
 use Rattle.plcx_unit.proofs.Folding.{first_four}

@@ -1,4 +1,4 @@
-use Rattle.std.proofs.Common.{Bool, true, false, List, map, not, ◌&&◌, get_or, ap, ap₂, sym, subst, ◌∙◌}
+use Rattle.std.proofs.Common.{Bool, false, List, not, ◌&&◌, get_or, ap, ap₂, sym, subst, ◌∙◌}
 use Rattle.plcx_st.specs.declared.tree.PouText.{PouText}
 use Rattle.plcx_conditions.specs.declared.broken.Condition.TheVariants.{Recursion}
 use Rattle.plcx_conditions.specs.Broken.{broken_if}
