@@ -19,3 +19,4 @@ pub mod Reading
 pub mod ReadLiteral
 pub mod ReadConversion
 pub mod ReadAddress
+pub mod Signs

@@ -10,20 +10,29 @@ use std::marker::Model;
 #[derive(Clone, Copy, Debug, PartialEq, Eq)]
 pub struct Val {
     ty: Ty,
-    n: i128,
+    negative: bool,
+    amount: u64,
 }
 
 impl Model for Val {
-    ghost use Rattle.plcx_types.specs.Value.{Value as Number};
+    ghost use Rattle.plcx_types.specs.Value.{Value as Number, signed, is_negative, amount_of};
     ghost use Rattle.plcx_types.specs.Range.{InRange};
 
     ghost Value = { Number };
 
-    ghost view = { λ value. record { ty = value.ty; n = value.n } };
+    ghost view = { λ value. record { ty = value.ty; n = signed value.negative value.amount } };
 
-    ghost invariant = { λ value. InRange value.ty value.n };
+    ghost invariant = { λ value. InRange value.ty (signed value.negative value.amount) };
 
-    ghost inverse = { λ value. record { ty = value.ty; n = value.n } };
+    ghost inverse = { λ value. record { ty = value.ty; negative = is_negative value.n; amount = amount_of value.n } };
+
+    ghost use Rattle.plcx_types.specs.Signs.{same_sign, same_amount};
+
+    ghost inverse_ok = { λ value h i. record {
+      ty = value.ty;
+      negative = same_sign value.negative value.amount i;
+      amount = same_amount value.negative value.amount i;
+    } };
 }
 
 /// Whether the number is one of the type.
@@ -39,7 +48,11 @@ pub fn default_of(ty: Ty) -> Val
     ensures ty { result.ty ≡ ty }
     ensures zero { result.n ≡ pos 0 }
 {
-    Val { ty, n: 0 }
+    Val {
+        ty,
+        negative: false,
+        amount: 0,
+    }
 }
 
 impl Val {
@@ -48,11 +61,16 @@ impl Val {
         ensures some { IfSome result (λ value. (value.ty ≡ ty) × (value.n ≡ n) × InRange ty n) }
         ensures none { IfNone result (InRange ty n → ⊥) }
     {
-        if in_range(ty, n) {
-            Some(Val { ty, n })
-        } else {
-            None
+        if !in_range(ty, n) {
+            return None;
         }
+        let negative = n < 0;
+        let amount = if negative { -1 - n } else { n } as u64;
+        Some(Val {
+            ty,
+            negative,
+            amount,
+        })
     }
 
     /// Its type.
@@ -67,7 +85,8 @@ impl Val {
         ensures number { result ≡ self.n }
         ensures range { InRange self.ty self.n }
     {
-        self.n
+        let amount = i128::from(self.amount);
+        if self.negative { -1 - amount } else { amount }
     }
 
     /// The value itself, where it is of the type.
