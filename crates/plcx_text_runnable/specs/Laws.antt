@@ -3,10 +3,9 @@ use Rattle.std.specs.Prelude.{◌≡◌, ℕ, ◌+◌, ◌≤◌, List, Some, le
 use Rattle.plcx_types.specs.declared.ty.Ty.{Ty}
 use Rattle.plcx_types.specs.Lists.{Each}
 use Rattle.plcx_types.specs.Value.{Value}
-use Rattle.plcx_meaning.specs.Tree.{Expression, Number, Name, Member, Apply, Not, Binary, Expressions, no_expression, expression}
+use Rattle.plcx_meaning.specs.Tree.{Expression}
 use Rattle.plcx_meaning.specs.Typed.{variable_in, part_in, referent_type, member_type, expression_type}
 use Rattle.plcx_meaning.specs.Execute.{referent}
-use Rattle.plcx_state.specs.Stores.{HasValue}
 use Rattle.plcx_steps.specs.declared.program.Operand.TheVariants.{Leaf}
 use Rattle.plcx_steps.specs.declared.program.Source.TheVariants.{Variable}
 use Rattle.plcx_steps.specs.declared.program.Body.{Body}
@@ -16,7 +15,8 @@ use Rattle.plcx_steps.specs.Typed.{Shape, IsOf, IsTypedAction}
 use Rattle.plcx_numbered.specs.Right.{HasAt}
 use Rattle.plcx_text_steps.specs.declared.text.Line.{Line}
 use Rattle.plcx_text_steps.specs.declared.text.Line.TheVariants.{Act}
-use Rattle.plcx_text_numbered.specs.Prepared.{Numbering, or_bool, place_source, wires_of, all_wires, source_of, arguments_of, lines_of}
+use Rattle.plcx_text_numbered.specs.Prepared.{Numbering, place_source, source_of, arguments_of, lines_of}
+use Rattle.plcx_text_numbered.specs.Texts.{HasWires}
 
 -- a body has the leaves, memories and in-outs whose types are these
 pub record IsShapeOf (body : Body) (shape : Shape) : Type 0 where
@@ -28,24 +28,6 @@ pub record IsShapeOf (body : Body) (shape : Shape) : Type 0 where
 pub record AreTypedNumbers (c : Numbering) (shape : Shape) (wires : List Value) : Type 0 where
   pub names : (x : List ℕ) (t : Ty) → referent_type (referent c.scope.world (variable_in c.scope x)) ≡ Some t → IsOf shape wires (place_source (c.place x)) t
   pub members : (i x : List ℕ) (t : Ty) → member_type c.scope.world (part_in c.scope i x) ≡ Some t → IsOf shape wires (Variable (Leaf (c.inner i x))) t
-
--- a wire of the type of an expression
-abbrev pub HasWire : Numbering → List Value → ℕ → Expression → Type 0
-HasWire c wires w e = HasValue wires w (or_bool (expression_type c.scope e))
-
-abbrev mutual
-  -- each call of a function within an expression has a wire of its type, from this one on
-  pub HasWires : Numbering → List Value → ℕ → Expression → Type 0
-  HasWires c wires w (Number v) = Unit {0}
-  HasWires c wires w (Name x) = Unit {0}
-  HasWires c wires w (Member i x) = Unit {0}
-  HasWires c wires w (Apply x es) = HaveWires c wires w es × HasWire c wires (w + all_wires es) (Apply x es)
-  HasWires c wires w (Not e) = HasWires c wires w e × HasWire c wires (w + wires_of e) (Not e)
-  HasWires c wires w (Binary op a b) = HasWires c wires w a × HasWires c wires (w + wires_of a) b × HasWire c wires (w + (wires_of a + wires_of b)) (Binary op a b)
-
-  pub HaveWires : Numbering → List Value → ℕ → Expressions → Type 0
-  HaveWires c wires w no_expression = Unit {0}
-  HaveWires c wires w (expression e es) = HasWires c wires w e × HaveWires c wires (w + wires_of e) es
 
 -- a line is an action that can be run
 abbrev pub CanRun : Program → Body → Shape → List Value → Line → Type 0
