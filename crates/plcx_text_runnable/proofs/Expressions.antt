@@ -34,7 +34,7 @@ use Rattle.plcx_text_numbered.proofs.Values.{Typed, typed_of}
 use Rattle.plcx_text_numbered.specs.Texts.{HasWire, HasWires, HaveWires}
 use Rattle.plcx_text_runnable.specs.Laws.{IsShapeOf, AreTypedNumbers, CanRun}
 
-mapped_some : {A B : Type 0} (f : A → B) (o : Option A) (y : B) → option_map f o ≡ Some y → (x : A) × (o ≡ Some x) × (f x ≡ y)
+pub mapped_some : {A B : Type 0} (f : A → B) (o : Option A) (y : B) → option_map f o ≡ Some y → (x : A) × (o ≡ Some x) × (f x ≡ y)
 mapped_some f None y h = absurd (cc)
 mapped_some f (Some x) y h = (x, refl, cc)
 

@@ -5,3 +5,8 @@ pub mod Bindings
 pub mod Grounds
 pub mod Rights
 pub mod Lines
+pub mod Statements
+pub mod Programs
+pub mod Propositions
+pub mod Laid
+pub mod Standing

@@ -39,14 +39,11 @@ use Rattle.plcx_text_numbered.specs.Statements.{Around, IsExpression, IsValue, I
 use Rattle.plcx_text_numbered.specs.Numbers.{places_of, leaf_number, bound_operand, bound_operands, place_named, plan_of, plans_of}
 use Rattle.plcx_text_numbered.specs.Texts.{IsExpressionOf, IsValueOf, IsAssignOf, IsInputOf, IsTakenOf, AreTakenOf, inner_in_outs, called_lines, IsCallOf, IsSectionOf, IsStatementOf, AreStatementsOf, AreArmsOf, AreLinesOf}
 use Rattle.plcx_runnable.proofs.Lists.{mapped_at, mapped_from}
+use Rattle.plcx_text_runnable.proofs.Expressions.{mapped_some}
 use Rattle.plcx_text_runnable.proofs.Instances.{IsUserBlock, is_user, within_place, level_below, composed_block}
 use Rattle.plcx_text_runnable.proofs.Places.{IsVariable, variable_of, output_of, input_of, place_right, inner_right, first_frame, temporaries_apart}
 use Rattle.plcx_text_runnable.proofs.Bindings.{IsInstanceOf, binding_leaf, binding_at}
 use Rattle.plcx_text_runnable.proofs.Grounds.{Ground, vs, world, scope, num, wires, owner, parts, called, IsCallee, callee, standard_place}
-
-pub mapped_some : {A B : Type 0} (f : A → B) (o : Option A) (y : B) → option_map f o ≡ Some y → (x : A) × (o ≡ Some x) × (f x ≡ y)
-mapped_some f None y h = absurd (cc)
-mapped_some f (Some x) y h = (x, refl, cc)
 
 -- sections are counted upwards
 mutual
