@@ -3,14 +3,16 @@ ghost use Rattle.std.specs.Prelude.{◌≡◌, ◌<◌, option_map, option_and_t
 ghost use Rattle.plcx_funcs.specs.Pins.{can_have, group_types, input_class, output_class};
 ghost use Rattle.plcx_funcs.specs.Applied.{takes, suits};
 ghost use Rattle.plcx_meaning.specs.Functions.{group_index, group_of, all_suit, can_apply, out_type};
-ghost use Rattle.plcx_meaning.specs.Typed.{is_operator, type_at, result_type};
-ghost use Rattle.plcx_conditions.specs.Expressions.{refuses};
+ghost use Rattle.plcx_meaning.specs.Execute.{function_of};
+ghost use Rattle.plcx_meaning.specs.Typed.{is_operator, type_at, result_type, call_type};
+ghost use Rattle.plcx_st.specs.Meant.{op_meant};
 
 use plcx_funcs::{Allowed, Class, Func, FuncPins, signature};
+use plcx_st::Op;
 use plcx_types::Ty;
 
 /// Whether a function is written by an operator.
-pub(crate) fn is_operator(func: Func) -> bool
+pub fn is_operator(func: Func) -> bool
     ensures { result ≡ is_operator func }
 {
     match func {
@@ -34,7 +36,7 @@ fn pins_of(func: Func, count: usize) -> Option<FuncPins>
 }
 
 /// Whether a function can have so many inputs.
-pub(crate) fn can_have(func: Func, count: usize) -> bool
+pub fn can_have(func: Func, count: usize) -> bool
     ensures { result ≡ can_have func count }
 {
     pins_of(func, count).is_some()
@@ -127,7 +129,7 @@ fn type_at(func: Func, ty: Ty, types: &[Ty]) -> Option<Ty>
 }
 
 /// The place of the input that tells the type of the group.
-fn group_index(func: Func) -> usize
+pub fn group_index(func: Func) -> usize
     ensures { result ≡ group_index func }
 {
     match func {
@@ -143,7 +145,7 @@ fn group_of(func: Func, types: &[Ty]) -> Option<Ty>
 }
 
 /// The type of what a function gives for inputs of these types.
-pub(crate) fn result_type(func: Func, types: &[Ty]) -> Option<Ty>
+pub fn result_type(func: Func, types: &[Ty]) -> Option<Ty>
     ensures { result ≡ result_type func types.now }
 {
     match group_of(func, types) {
@@ -153,7 +155,7 @@ pub(crate) fn result_type(func: Func, types: &[Ty]) -> Option<Ty>
 }
 
 /// The type of what a function gives for inputs whose types are known.
-pub(crate) fn known_result(func: Func, types: Option<&[Ty]>) -> Option<Ty>
+pub fn known_result(func: Func, types: Option<&[Ty]>) -> Option<Ty>
     ensures { result ≡ option_and_then (result_type func) (option_map (λ s. s.now) types.entry) }
 {
     match types {
@@ -162,13 +164,41 @@ pub(crate) fn known_result(func: Func, types: Option<&[Ty]>) -> Option<Ty>
     }
 }
 
-/// Whether the types of all inputs are known, and a function doesn't take them.
-pub(crate) fn refuses(func: Func, types: Option<&[Ty]>) -> bool
-    ensures { result ≡ refuses func (option_map (λ s. s.now) types.entry) }
+/// The type of what the function of a name gives, where there is one; one of an operator is not called by its name.
+pub fn call_type(called: Option<Func>, types: Option<&[Ty]>) -> Option<Ty>
+    ensures { result ≡ option_and_then (call_type called) (option_map (λ s. s.now) types.entry) }
 {
-    match types {
-        None => false,
-        Some(types) => result_type(func, types).is_none(),
+    match called {
+        None => None,
+        Some(func) => {
+            if is_operator(func) {
+                None
+            } else {
+                known_result(func, types)
+            }
+        }
+    }
+}
+
+/// The function of an operator.
+pub fn function_of(op: Op) -> Func
+    ensures { result ≡ function_of (op_meant op) }
+{
+    match op {
+        Op::Or => Func::Or,
+        Op::Xor => Func::Xor,
+        Op::And => Func::And,
+        Op::Equal => Func::Eq,
+        Op::NotEqual => Func::Ne,
+        Op::Less => Func::Lt,
+        Op::Greater => Func::Gt,
+        Op::LessOrEqual => Func::Le,
+        Op::GreaterOrEqual => Func::Ge,
+        Op::Plus => Func::Add,
+        Op::Minus => Func::Sub,
+        Op::Times => Func::Mul,
+        Op::Divide => Func::Div,
+        Op::Mod => Func::Mod,
     }
 }
 
