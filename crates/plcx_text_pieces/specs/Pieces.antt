@@ -1,7 +1,5 @@
 -- What is prepared of the pieces of a body: their lines, and what stands beside these in the lists of the program and of the text.
-use Rattle.std.specs.Prelude.{ℕ, ◌+◌, pos, List, [], ◌∷◌, ◌++◌, Option, Some, None, length, map, if◌then◌else◌}
-use Rattle.std.specs.Str.{bytes_eq}
-use Rattle.plcx_types.specs.Name.{in_lower_case}
+use Rattle.std.specs.Prelude.{ℕ, ◌+◌, pos, List, [], ◌∷◌, ◌++◌, Option, length}
 use Rattle.plcx_types.specs.Value.{Value}
 use Rattle.plcx_types.specs.declared.ty.Ty.{Ty}
 use Rattle.plcx_funcs.specs.declared.func.Func.{Func}
@@ -10,7 +8,6 @@ use Rattle.plcx_meaning.specs.Tree.{Expression, Number, Name, Member, Apply, Not
 use Rattle.plcx_meaning.specs.Typed.{expression_type}
 use Rattle.plcx_meaning.specs.Execute.{Formal, Takes, Binds, NoFormal}
 use Rattle.plcx_steps.specs.declared.program.Operand.{Operand}
-use Rattle.plcx_steps.specs.declared.program.Operand.TheVariants.{Leaf}
 use Rattle.plcx_steps.specs.declared.program.Source.{Source}
 use Rattle.plcx_steps.specs.declared.program.Argument.{Argument}
 use Rattle.plcx_steps.specs.declared.program.Action.TheVariants as action
@@ -19,7 +16,8 @@ use Rattle.plcx_text_steps.specs.declared.text.Line.TheVariants as line
 use Rattle.plcx_text_steps.specs.declared.text.Arm.{Arm as Choice}
 use Rattle.plcx_text_numbered.specs.Prepared.{Place, Held, Stored, Numbering, or_bool, wires_of, source_of, arguments_of, all_arguments, named_lines, lines_of, all_lines}
 use Rattle.plcx_text_numbered.specs.Statements.{formal_of, store_line, store_lines}
-use Rattle.plcx_text_pieces.specs.Numbers.{Callee, Block, User, Numbers}
+use Rattle.plcx_text_numbered.specs.Numbers.{bound_operands}
+use Rattle.plcx_text_pieces.specs.Called.{Callee, Block, User, Numbers}
 
 -- a section: the POU that it is part of, and its lines
 abbrev pub Part : Type 0
@@ -145,29 +143,15 @@ abbrev pub all_taken_piece : Numbering → Start → List ℕ → List Given →
 all_taken_piece c s i [] = nothing
 all_taken_piece c s i (a ∷ rest) = let p = taken_piece c s (formal_of c i a) a in joined p (all_taken_piece c (after s p) i rest)
 
--- the argument for the formal of a name without case
-abbrev pub value_for : List ℕ → List Given → Option Expression
-value_for key [] = None
-value_for key (a ∷ rest) = if bytes_eq (in_lower_case a.formal) key then Some a.value else value_for key rest
-
--- the leaf of the variable that an expression names, any where it names none
-abbrev pub operand_at : Place → Operand
-operand_at (Held w) = Leaf 0
-operand_at (Stored o) = o
-
-abbrev pub operand_for : Numbering → Option Expression → Operand
-operand_for c (Some (Name x)) = operand_at (c.place x)
-operand_for c _ = Leaf 0
-
 -- what the in-outs of what is called are bound to
 abbrev pub bindings_for : Numbering → Callee → List Given → List Operand
 bindings_for c (Block k leaf) args = []
-bindings_for c (User pou leaves keys) args = map (λ key. operand_for c (value_for key args)) keys
+bindings_for c (User pou leaves names) args = bound_operands c args names
 
 -- the call itself, whose bindings are the program's from the first on
 abbrev pub called_lines : Callee → (first : ℕ) → List Line
 called_lines (Block k leaf) first = line.Act (action.Standard k leaf) ∷ []
-called_lines (User pou leaves keys) first = line.Call pou leaves first (length keys) ∷ []
+called_lines (User pou leaves names) first = line.Call pou leaves first (length names) ∷ []
 
 -- the inputs are stored, and then the block is run
 abbrev pub run_piece : Numbers → Start → (wire : ℕ) → List ℕ → List Given → Piece

@@ -1,4 +1,4 @@
 //! What is prepared of a unit of text, computed.
 //!
-//! `Numbers` of the specs gives the numbers of what a POU declares, and `Pieces` the lines and sections of its statements.
+//! `Pieces` of the specs gives the lines and sections of statements, over any numbers of what they name.
 #![tactic(auto)]
