@@ -7,15 +7,16 @@ use Rattle.plcx_meaning.specs.Tree as tree
 use Rattle.plcx_meaning.specs.Layout.{Scope}
 use Rattle.plcx_meaning.specs.Execute.{formal}
 use Rattle.plcx_meaning.specs.Typed.{part_in}
-use Rattle.plcx_meaning.specs.Ready.{ExpressionIsReady, ValueIsReady}
+use Rattle.plcx_meaning.specs.Ready.{ExpressionIsReady, ValueIsReady, StatementIsReady}
+use Rattle.plcx_st.specs.declared.tree.Arg.{Arg}
 use Rattle.plcx_steps.specs.declared.program.Argument.{Argument}
 use Rattle.plcx_text_steps.specs.declared.text.Line.{Line}
 use Rattle.plcx_text_steps.specs.declared.text.Arm.{Arm}
 use Rattle.plcx_text_steps.specs.declared.text.Section.{Section}
 use Rattle.plcx_text_numbered.specs.Prepared.{Numbering, argument, inputs}
-use Rattle.plcx_text_numbered.specs.Statements.{store_lines}
-use Rattle.plcx_text_pieces.specs.Numbers.{Numbers}
-use Rattle.plcx_text_pieces.specs.Pieces.{Part, Piece, Start, after, value_piece, values_piece, all_taken_piece, boxed, arms_piece, choices_of}
+use Rattle.plcx_text_numbered.specs.Statements.{formal_of, store_one, store_lines}
+use Rattle.plcx_text_pieces.specs.Called.{Numbers}
+use Rattle.plcx_text_pieces.specs.Pieces.{Part, Piece, Start, after, value_piece, values_piece, taken_piece, all_taken_piece, boxed, arms_piece, choices_of}
 use Rattle.plcx_text_lines.specs.declared.emitting.Prepared.{Prepared}
 
 -- a section of the code
@@ -79,10 +80,23 @@ pub record BringsAll (c : Numbering) (es : List Expression) (before behind : Pre
 abbrev pub Suits : Scope → List ℕ → tree.Argument → Type 0
 Suits c i a = ValueIsReady c a.value (formal c.world (part_in c i a.formal))
 
--- the values of the inputs of a call are brought into wires, and these lines store them
+-- the value of an argument is brought into a wire where it is an input, and then a line more stores it
+pub record TakesOne (c : Numbering) (i : List ℕ) (a : tree.Argument) (before behind : Prepared) (stores more : List Line) : Type 0 where
+  pub added : Adds (taken_piece c (start_of before) (formal_of c i a) a) before behind
+  pub stored : more ≡ stores ++ store_one (formal_of c i a) c i (length before.wires.items) a
+
+-- the same of all arguments of a call
 pub record Takes (c : Numbering) (i : List ℕ) (args : List tree.Argument) (before behind : Prepared) (stores : List Line) : Type 0 where
   pub added : Adds (all_taken_piece c (start_of before) i args) before behind
   pub stored : stores ≡ store_lines c i (length before.wires.items) args
+
+-- the formal names of arguments
+abbrev pub formals : List Arg → List (List ℕ)
+formals args = map (λ (a : Arg). a.formal.name) args
+
+-- the statements of an arm are ready
+abbrev pub ArmIsReady : Scope → (ℕ × List tree.Statement) → Type 0
+ArmIsReady c a = Each (StatementIsReady c) a.1
 
 -- a piece is added as a section of this number
 pub record AddsBoxed (pou : ℕ) (p : Piece) (before behind : Prepared) (number : ℕ) : Type 0 where

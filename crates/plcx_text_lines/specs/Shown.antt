@@ -3,7 +3,7 @@ use Rattle.std.specs.Prelude.{ℕ, List, map, Bor}
 use Rattle.plcx_types.specs.Name.{in_lower_case}
 use Rattle.plcx_meaning.specs.Execute as execute
 use Rattle.plcx_text_numbered.specs.Prepared as numbered
-use Rattle.plcx_text_pieces.specs.Numbers as pieces
+use Rattle.plcx_text_pieces.specs.Called as pieces
 use Rattle.plcx_text_lines.specs.declared.numbers.Place.{Place}
 use Rattle.plcx_text_lines.specs.declared.numbers.Place.TheVariants as place
 use Rattle.plcx_text_lines.specs.declared.numbers.Formal.{Formal}

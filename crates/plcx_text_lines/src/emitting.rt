@@ -115,10 +115,7 @@ pub(crate) fn fixed(before: Prepared, source: Source, ty: Ty) -> Result<Prepared
 }
 
 /// The inputs of a function more.
-pub(crate) fn with_arguments(
-    before: Prepared,
-    more: &[Argument],
-) -> Result<Prepared, NoMemory>
+pub(crate) fn with_arguments(before: Prepared, more: &[Argument]) -> Result<Prepared, NoMemory>
     ensures { IfOk result (λ behind. Adds (record nothing { arguments = more.now }) before behind) }
 {
     let Prepared {

@@ -3,7 +3,7 @@ ghost use Rattle.std.specs.Prelude.{◌≡◌, IfOk};
 ghost use Rattle.plcx_meaning.specs.Execute.{referent, formal};
 ghost use Rattle.plcx_meaning.specs.Typed.{variable_in, part_in, referent_type, member_type};
 ghost use Rattle.plcx_text_numbered.specs.Prepared.{or_bool};
-ghost use Rattle.plcx_text_pieces.specs.Numbers as pieces;
+ghost use Rattle.plcx_text_pieces.specs.Called as pieces;
 ghost use Rattle.plcx_text_lines.specs.Shown.{shown_place, shown_formal, shown_callee};
 
 use plcx_std::StdKind;

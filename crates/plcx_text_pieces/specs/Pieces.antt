@@ -182,14 +182,14 @@ while_piece n s e body =
     (joined (boxed n.pou inner) (one_line (line.While (after s test).sections (source_of n.names s.wires e) (after behind inner).sections)))
 
 -- a CASE over these choices, whose sections stand before
-abbrev pub choice_piece : Numbering → Start → (wire : ℕ) → Expression → List Choice → Piece
-choice_piece c s wire e choices = record nothing { lines = line.Case (source_of c wire e) s.arms (length choices) ∷ []; arms = choices }
+abbrev pub chosen_piece : Start → Source → List Choice → Piece
+chosen_piece s source choices = record nothing { lines = line.Case source s.arms (length choices) ∷ []; arms = choices }
 
 abbrev pub case_piece : Numbering → Start → Expression → (arms : Start → Piece) → (choices : Start → List Choice) → Piece
 case_piece c s e arms choices =
     let value = value_piece c s e in
     let inner = arms (after s value) in
-    joined value (joined inner (choice_piece c (after (after s value) inner) s.wires e (choices (after s value))))
+    joined value (joined inner (chosen_piece (after (after s value) inner) (source_of c s.wires e) (choices (after s value))))
 
 -- ---- statements
 
