@@ -3,7 +3,7 @@ use Rattle.std.proofs.Common.{◌≡◌, ◌≢◌, ◌≤◌, ◌∙◌, ℕ, L
 use Rattle.std.specs.Prelude.{Result, Ok, Err}
 use Rattle.plcx_io.specs.Told.{Tells}
 use Rattle.plcx_types.specs.Limits.{max_file_bytes}
-use Rattle.plcx_words.specs.Command.{Command, Run, check, compile, simulate, run, bench}
+use Rattle.plcx_words.specs.Command.{Command, Run, check, compile, simulate, run, bench, cycle, migrate, report, cover}
 use Rattle.plcx_model.specs.declared.broken.Broken as model
 use Rattle.plcx_model.specs.declared.project.Project.{Project}
 use Rattle.plcx_traced.specs.declared.error.RunError.{RunError}
@@ -29,6 +29,10 @@ unread_to_come (Some (compile n)) name t e = cc
 unread_to_come (Some (simulate r)) name t e = cc
 unread_to_come (Some (run r)) name t e = cc
 unread_to_come (Some (bench n)) name t e = cc
+unread_to_come (Some (cycle t)) name t e = cc
+unread_to_come (Some (migrate m)) name t e = cc
+unread_to_come (Some (report m)) name t e = cc
+unread_to_come (Some (cover r)) name t e = cc
 
 to_come-unread : (c : Command) → file_of c ≡ None → is_to_come (Some c) ≡ true
 to_come-unread (check n) e = absurd (cc)
@@ -36,6 +40,10 @@ to_come-unread (compile n) e = absurd (cc)
 to_come-unread (simulate r) e = absurd (cc)
 to_come-unread (run r) e = refl
 to_come-unread (bench n) e = refl
+to_come-unread (cycle t) e = refl
+to_come-unread (migrate m) e = refl
+to_come-unread (report m) e = refl
+to_come-unread (cover r) e = refl
 
 module _ (told : List ℕ → Option (List ℕ)) (rose : List ℕ → Type 0) where
   -- a file that is accepted, and what the action answers to it
@@ -84,3 +92,7 @@ module _ (told : List ℕ → Option (List ℕ)) (rose : List ℕ → Type 0) wh
   kind (simulate r) bytes a h = simulated-kind r bytes a h.outcome h.simulated h.answer
   kind (run r) bytes a h = absurd h
   kind (bench n) bytes a h = absurd h
+  kind (cycle t) bytes a h = absurd h
+  kind (migrate m) bytes a h = absurd h
+  kind (report m) bytes a h = absurd h
+  kind (cover r) bytes a h = absurd h

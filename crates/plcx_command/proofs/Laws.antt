@@ -3,7 +3,7 @@ use Rattle.std.proofs.Common.{◌≡◌, ◌≢◌, ◌↔◌, ◌∙◌, ℕ, L
 use Rattle.std.specs.Prelude.{Ok, Err, unwrap_or}
 use Rattle.plcx_io.specs.Counts.{Rose}
 use Rattle.plcx_meaning.specs.Evaluate.{Heard}
-use Rattle.plcx_words.specs.Command.{Command, Run, check, compile, simulate, run, bench}
+use Rattle.plcx_words.specs.Command.{Command, Run, check, compile, simulate, run, bench, cycle, migrate, report, cover}
 use Rattle.plcx_model.specs.declared.broken.Broken as model
 use Rattle.plcx_state.specs.declared.layout.Leaf.{Leaf}
 use Rattle.plcx_traced.specs.declared.error.RunError.{RunError}
@@ -245,6 +245,10 @@ module _ (one_verdict : (bytes : List ℕ) (v w : Verdict) → FileVerdict bytes
   check-outputs name a (simulate r) is f = absurd (cc)
   check-outputs name a (run r) is f = absurd (cc)
   check-outputs name a (bench n) is f = absurd (cc)
+  check-outputs name a (cycle t) is f = absurd (cc)
+  check-outputs name a (migrate m) is f = absurd (cc)
+  check-outputs name a (report m) is f = absurd (cc)
+  check-outputs name a (cover r) is f = absurd (cc)
 
   pub checks_exactly : (command : Option Command) (s : Status) (out err : Change) → Ends told rose Became command s out err → ChecksExactly told command s out err
   checks_exactly command s out err ends name bytes is k d =
@@ -269,6 +273,10 @@ module _ (one_verdict : (bytes : List ℕ) (v w : Verdict) → FileVerdict bytes
   compile-outputs name bytes a (simulate r) k is f = absurd (cc)
   compile-outputs name bytes a (run r) k is f = absurd (cc)
   compile-outputs name bytes a (bench n) k is f = absurd (cc)
+  compile-outputs name bytes a (cycle t) k is f = absurd (cc)
+  compile-outputs name bytes a (migrate m) k is f = absurd (cc)
+  compile-outputs name bytes a (report m) k is f = absurd (cc)
+  compile-outputs name bytes a (cover r) k is f = absurd (cc)
 
   pub compiles_exactly : (command : Option Command) (s : Status) (out err : Change) → Ends told rose Became command s out err → CompilesExactly told command s out err
   compiles_exactly command s out err ends name bytes is k d =
@@ -377,6 +385,10 @@ module _ (one_verdict : (bytes : List ℕ) (v w : Verdict) → FileVerdict bytes
   other-hears (Some (simulate r)) a ne h = absurd (ne r refl)
   other-hears (Some (run r)) a ne h = h
   other-hears (Some (bench n)) a ne h = h
+  other-hears (Some (cycle t)) a ne h = h
+  other-hears (Some (migrate m)) a ne h = h
+  other-hears (Some (report m)) a ne h = h
+  other-hears (Some (cover r)) a ne h = h
 
   refused-run-hears : (r : Run) (why : Refused) → why ≢ why'.NoMemory → HearsRefused told Became r why → Became []
   refused-run-hears r why'.Broken ne h = h
@@ -394,6 +406,10 @@ module _ (one_verdict : (bytes : List ℕ) (v w : Verdict) → FileVerdict bytes
   refused-hears (Some (simulate r)) why line ne h = refused-run-hears r why ne h
   refused-hears (Some (run r)) why line ne h = h
   refused-hears (Some (bench n)) why line ne h = h
+  refused-hears (Some (cycle t)) why line ne h = h
+  refused-hears (Some (migrate m)) why line ne h = h
+  refused-hears (Some (report m)) why line ne h = h
+  refused-hears (Some (cover r)) why line ne h = h
 
   -- a refusal for another cause than memory, whatever the status
   quiet-status : (command : Option Command) (s : Status) (out err : Change) → Ends told rose Became command s out err → (why : Refused) → why ≢ why'.NoMemory → s ≡ status_of why → Became []

@@ -5,7 +5,7 @@ use Rattle.plcx_io.specs.Counts.{Rose}
 use Rattle.plcx_io.specs.Told.{Tells}
 use Rattle.plcx_meaning.specs.Diagram.{Project}
 use Rattle.plcx_meaning.specs.Evaluate.{Heard}
-use Rattle.plcx_words.specs.Command.{Command, Run, check, compile, simulate, run, bench}
+use Rattle.plcx_words.specs.Command.{Command, Run, check, compile, simulate, run, bench, cycle, migrate, report, cover}
 use Rattle.plcx_state.specs.declared.layout.Leaf.{Leaf}
 use Rattle.plcx_traced.specs.declared.error.RunError.{RunError}
 use Rattle.plcx_traced.specs.declared.error.RunError.TheVariants as error
@@ -94,6 +94,10 @@ module _ (one_verdict : (bytes : List ℕ) (v w : Verdict) → FileVerdict bytes
   simulate-answers r (simulate q) bytes a is f = let same : q ≡ r = cc in subst (λ (x : Run). AnswersRun told rose x f.bytes a) same f.follows
   simulate-answers r (run q) bytes a is f = absurd (cc)
   simulate-answers r (bench n) bytes a is f = absurd (cc)
+  simulate-answers r (cycle t) bytes a is f = absurd (cc)
+  simulate-answers r (migrate m) bytes a is f = absurd (cc)
+  simulate-answers r (report m) bytes a is f = absurd (cc)
+  simulate-answers r (cover q) bytes a is f = absurd (cc)
 
   -- what a simulation whose status is defined comes to
   record IsOutcome (r : Run) (a : Answer) : Type 0 where
@@ -320,6 +324,10 @@ module _ (one_verdict : (bytes : List ℕ) (v w : Verdict) → FileVerdict bytes
   fine-verdict (Some (simulate r)) name bytes h p k = let same : r.file ≡ name = cc in simulates-accepted r (Ok h.0) bytes (ap told same ∙ k) h.1
   fine-verdict (Some (run r)) name bytes h p k = absurd h
   fine-verdict (Some (bench n)) name bytes h p k = absurd h
+  fine-verdict (Some (cycle t)) name bytes h p k = absurd h
+  fine-verdict (Some (migrate m)) name bytes h p k = absurd h
+  fine-verdict (Some (report m)) name bytes h p k = absurd h
+  fine-verdict (Some (cover r)) name bytes h p k = absurd h
 
   project-read : (command : Option Command) (name : List ℕ) → project_file command ≡ Some name → Reads command name
   project-read None name p = absurd (cc)
@@ -328,6 +336,10 @@ module _ (one_verdict : (bytes : List ℕ) (v w : Verdict) → FileVerdict bytes
   project-read (Some (simulate r)) name p = inl (cc)
   project-read (Some (run r)) name p = absurd (cc)
   project-read (Some (bench n)) name p = absurd (cc)
+  project-read (Some (cycle t)) name p = absurd (cc)
+  project-read (Some (migrate m)) name p = absurd (cc)
+  project-read (Some (report m)) name p = absurd (cc)
+  project-read (Some (cover r)) name p = absurd (cc)
 
   -- what is fine is answered by an output
   fine-follows : (c : Command) (name : List ℕ) (a : Answer) → file_of c ≡ Some name → IsFine told (Some c) → TellsAll told (Some c)
@@ -352,6 +364,10 @@ module _ (one_verdict : (bytes : List ℕ) (v w : Verdict) → FileVerdict bytes
       (h.0, f.follows.answer ∙ ap (answer_to r) (one_simulated r all f.follows.outcome (Ok h.0) s h.1))
   fine-follows (run r) name a is h all quiet f = absurd h
   fine-follows (bench n) name a is h all quiet f = absurd h
+  fine-follows (cycle t) name a is h all quiet f = absurd h
+  fine-follows (migrate m) name a is h all quiet f = absurd h
+  fine-follows (report m) name a is h all quiet f = absurd h
+  fine-follows (cover r) name a is h all quiet f = absurd h
 
   fine-output : (command : Option Command) (a : Answer) → IsFine told command → TellsAll told command → ((x : List ℕ) → Reads command x → rose x → ⊥)
       → Found told rose command a → (text : List ℕ) × (a ≡ output text)
@@ -365,6 +381,10 @@ module _ (one_verdict : (bytes : List ℕ) (v w : Verdict) → FileVerdict bytes
       not_to_come (Some (simulate r)) t h = cc
       not_to_come (Some (run r)) t h = h
       not_to_come (Some (bench n)) t h = h
+      not_to_come (Some (cycle t)) t h = h
+      not_to_come (Some (migrate m)) t h = h
+      not_to_come (Some (report m)) t h = h
+      not_to_come (Some (cover r)) t h = h
   fine-output command a h all quiet (unread name p r e) = absurd (quiet name (project-read command name p) r)
   fine-output command a h all quiet (breaks b name p v e) =
       let held = all name (project-read command name p) in

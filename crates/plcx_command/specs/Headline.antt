@@ -6,7 +6,7 @@ use Rattle.plcx_meaning.specs.Evaluate.{Heard}
 use Rattle.plcx_traced.specs.declared.error.RunError.{RunError}
 use Rattle.plcx_traced.specs.declared.error.RunError.TheVariants as error
 use Rattle.plcx_command.specs.Answer.{ok_line, read_line, broken_line, usage_line, memory_line, not_built_line, write_line, Answer, refusal, output}
-use Rattle.plcx_words.specs.Command.{Command, Run, check, compile, simulate, run, bench}
+use Rattle.plcx_words.specs.Command.{Command, Run, check, compile, simulate, run, bench, cycle, migrate, report, cover}
 use Rattle.plcx_model.specs.declared.broken.Broken as model
 use Rattle.plcx_command.specs.Compiled.{IsCompiled}
 use Rattle.plcx_command.specs.Hears.{Hears, IsHeard, IsHeardInPart}
@@ -44,6 +44,10 @@ Reads (Some (compile name)) file = file ≡ name
 Reads (Some (simulate r)) file = (file ≡ r.file) ⊎ ((r.retain ≡ Some file) ⊎ (file ≡ r.events))
 Reads (Some (run r)) file = ⊥
 Reads (Some (bench n)) file = ⊥
+Reads (Some (cycle t)) file = ⊥
+Reads (Some (migrate m)) file = ⊥
+Reads (Some (report m)) file = ⊥
+Reads (Some (cover r)) file = ⊥
 
 -- the desk tells a file
 abbrev pub IsTold : (List ℕ → Option (List ℕ)) → List ℕ → Type 0
@@ -116,6 +120,10 @@ is_to_come (Some (compile name)) = false
 is_to_come (Some (simulate r)) = false
 is_to_come (Some (run r)) = true
 is_to_come (Some (bench n)) = true
+is_to_come (Some (cycle t)) = true
+is_to_come (Some (migrate m)) = true
+is_to_come (Some (report m)) = true
+is_to_come (Some (cover r)) = true
 
 -- What is not built is an action.
 abbrev pub RefusesNotBuilt : Option Command → Status → Change → Change → Type 0
@@ -180,6 +188,10 @@ IsFine told (Some (compile name)) = (bytes : List ℕ) × (told name ≡ Some by
 IsFine told (Some (simulate r)) = (text : List ℕ) × Simulates told Never r (Ok text)
 IsFine told (Some (run r)) = ⊥
 IsFine told (Some (bench n)) = ⊥
+IsFine told (Some (cycle t)) = ⊥
+IsFine told (Some (migrate m)) = ⊥
+IsFine told (Some (report m)) = ⊥
+IsFine told (Some (cover r)) = ⊥
 
 -- Where that is so, the desk tells all files that are read, and no count of these and of no sink rose, the output comes, unless memory is refused.
 abbrev pub IsComplete : (List ℕ → Option (List ℕ)) → (List ℕ → Type 0) → Option Command → Status → Change → Change → Type 0

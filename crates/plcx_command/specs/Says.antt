@@ -1,7 +1,7 @@
 -- What each command answers, by what the desk tells of its files.
 use Rattle.std.specs.Prelude.{◌≡◌, ◌≤◌, ◌<◌, ℕ, List, Option, Some, None, length, IfSome}
 use Rattle.plcx_io.specs.Told.{Tells}
-use Rattle.plcx_words.specs.Command.{Command, check, compile, simulate, run, bench}
+use Rattle.plcx_words.specs.Command.{Command, check, compile, simulate, run, bench, cycle, migrate, report, cover}
 use Rattle.plcx_types.specs.Limits.{max_file_bytes}
 use Rattle.plcx_command.specs.Answer.{Answer, output, ok_answer, usage_answer, not_built_answer, read_answer, broken_answer}
 use Rattle.plcx_command.specs.Compiled.{IsCompiled}
@@ -42,6 +42,10 @@ file_of (compile name) = Some name
 file_of (simulate r) = Some r.file
 file_of (run r) = None
 file_of (bench n) = None
+file_of (cycle t) = None
+file_of (migrate m) = None
+file_of (report m) = None
+file_of (cover r) = None
 
 -- what an action answers to bytes that break no rule
 abbrev pub Follows : (List ℕ → Option (List ℕ)) → (List ℕ → Type 0) → Command → List ℕ → Answer → Type 0
@@ -50,6 +54,10 @@ Follows told rose (compile name) bytes a = IsText bytes a
 Follows told rose (simulate r) bytes a = AnswersRun told rose r bytes a
 Follows told rose (run r) bytes a = ⊥
 Follows told rose (bench n) bytes a = ⊥
+Follows told rose (cycle t) bytes a = ⊥
+Follows told rose (migrate m) bytes a = ⊥
+Follows told rose (report m) bytes a = ⊥
+Follows told rose (cover r) bytes a = ⊥
 
 -- what is answered over this project file, or without one
 abbrev pub SaysOver : (List ℕ → Option (List ℕ)) → (List ℕ → Type 0) → Option (List ℕ) → Command → Answer → Type 0

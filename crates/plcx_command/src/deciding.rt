@@ -136,7 +136,12 @@ fn obey<D: Desk, W: Watch>(
         Command::Check(name) => check_file(alloc, desk, name),
         Command::Compile(name) => compile_file(alloc, desk, name),
         Command::Simulate(run) => simulate_file(alloc, desk, &run, watch),
-        Command::Run(_) | Command::Bench(_) => not_built(alloc),
+        Command::Run(_)
+        | Command::Bench(_)
+        | Command::Cycle(_)
+        | Command::Migrate(_)
+        | Command::Report(_)
+        | Command::Cover(_) => not_built(alloc),
     }
 }
 
