@@ -379,7 +379,7 @@ module _ (one_verdict : (bytes : List ℕ) (v w : Verdict) → FileVerdict bytes
       not_to_come (Some (simulate r)) t h = cc
       not_to_come (Some (run r)) t h = h
       not_to_come (Some (bench n)) t h = h
-      not_to_come (Some (cycle t)) t h = h
+      not_to_come (Some (cycle c)) t h = h
       not_to_come (Some (migrate m)) t h = cc
       not_to_come (Some (report m)) t h = cc
       not_to_come (Some (cover r)) t h = h

@@ -249,11 +249,11 @@ module _ (one_verdict : (bytes : List ℕ) (v w : Verdict) → FileVerdict bytes
   -- ---- faults of the outside, and want of memory
 
   -- the bytes of the project file that is read first, where it is told
-  own-bytes : (command : Option Command) (c : Command) → command ≡ Some c → (first : List ℕ) → file_of c ≡ Some first → (name : List ℕ) → project_file command ≡ Some name
-      → (bytes : List ℕ) → Tells (told name) bytes → TellsProject told command → told first ≡ Some bytes
-  own-bytes command c n first own name p bytes t k =
+  own-bytes : (command : Option Command) (c : Command) → command ≡ Some c → (own : List ℕ) → file_of c ≡ Some own → (name : List ℕ) → project_file command ≡ Some name
+      → (bytes : List ℕ) → Tells (told name) bytes → TellsProject told command → told own ≡ Some bytes
+  own-bytes command c n own is name p bytes t k =
       let held = k name (inl p) in
-      let file : name ≡ first = let q : Some name ≡ Some first = sym p ∙ ap project_file n ∙ own in cc in
+      let file : name ≡ own = let q : Some name ≡ Some own = sym p ∙ ap project_file n ∙ is in cc in
       ap told (sym file) ∙ held.1 ∙ ap Some (sym (tells-same (told name) bytes held.0 held.1 t))
 
   -- the cause of an accepted file is that of its run, or of its migration

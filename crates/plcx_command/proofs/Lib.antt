@@ -8,4 +8,4 @@ pub mod Migrations
 pub mod Simulations
 pub mod Causes
 pub mod Takes
-pub mod Migrating
+pub mod Carried

@@ -4,7 +4,7 @@ use Rattle.plcx_io.specs.Counts.{Rose}
 use Rattle.plcx_words.specs.Says.{said_by_migration}
 use Rattle.plcx_command.specs.ReplyOf.{answer_of}
 use Rattle.plcx_command.proofs.Takes.{rose_later}
-use Rattle.plcx_command.proofs.Migrating.{migration_later, old_refused, old_there}
+use Rattle.plcx_command.proofs.Carried.{migration_later, old_refused, old_there}
 use Rattle.plcx_command.proofs.migrating.migrate_file.Goals as goal
 
 pub returns-in-Laid : goal.returns-in-Laid

@@ -2,7 +2,7 @@ use Rattle.std.proofs.Common.{Ok, Err, refl, List, ℕ}
 use Rattle.std.proofs.lemmas.Result.{IfOk-weaker}
 use Rattle.plcx_words.specs.Says.{said_by_migration}
 use Rattle.plcx_command.specs.Migrated.{Line, RetainedRead}
-use Rattle.plcx_command.proofs.Migrating.{versions_there}
+use Rattle.plcx_command.proofs.Carried.{versions_there}
 use Rattle.plcx_command.proofs.migrating.migrated.Goals as goal
 
 pub returns-in-Ok : goal.returns-in-Ok

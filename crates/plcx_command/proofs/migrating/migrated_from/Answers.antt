@@ -5,7 +5,7 @@ use Rattle.plcx_words.specs.Says.{said_by_migration}
 use Rattle.plcx_traced.specs.Files.{IsLoaded}
 use Rattle.plcx_command.specs.ReplyOf.{answer_of}
 use Rattle.plcx_command.proofs.Takes.{rose_later}
-use Rattle.plcx_command.proofs.Migrating.{loaded_same, migration_later, new_refused}
+use Rattle.plcx_command.proofs.Carried.{loaded_same, migration_later, new_refused}
 use Rattle.plcx_command.proofs.migrating.migrated_from.Goals as goal
 
 pub returns-in-Laid : goal.returns-in-Laid

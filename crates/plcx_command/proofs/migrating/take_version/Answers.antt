@@ -3,7 +3,7 @@ use Rattle.std.proofs.lemmas.Result.{IfOk-weaker}
 use Rattle.plcx_command.specs.ReplyOf.{answer_of}
 use Rattle.plcx_command.specs.VersionOf.{AnswersNoProgram}
 use Rattle.plcx_command.proofs.Takes.{refused_over}
-use Rattle.plcx_command.proofs.Migrating.{version_whole}
+use Rattle.plcx_command.proofs.Carried.{version_whole}
 use Rattle.plcx_command.proofs.migrating.take_version.Goals as goal
 
 pub returns-in-Accepted-clause-version : goal.returns-in-Accepted-clause-version

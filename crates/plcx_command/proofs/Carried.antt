@@ -39,7 +39,7 @@ version_whole file told rose name program c f (version'.Refused reply) h =
 
 module _ (told : List ℕ → Option (List ℕ)) (m : Migration) (old new : List ℕ) (before after : Laid) where
   -- both versions, from their files
-  pub versions_there : HasVersion old m.program before → IsLoaded (told m.new) new → HasVersion new m.program after → Versions told m old
+  abbrev pub versions_there : HasVersion old m.program before → IsLoaded (told m.new) new → HasVersion new m.program after → Versions told m old
   versions_there has loaded has' = record { file = record { before = record { laid = before; is = has }; bytes = new; loaded = loaded }; after = after; is = has' }
 
 module _ (told : List ℕ → Option (List ℕ)) (rose : List ℕ → Type 0) (form : Form) (m : Migration) where
