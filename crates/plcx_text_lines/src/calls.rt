@@ -32,6 +32,7 @@ fn store_line(place: Place, source: Source) -> Line
 }
 
 /// An assignment.
+#[tactic(auto, using(crate::proofs::Calling::assigns))]
 pub(crate) fn assign<N: Numbers>(
     numbers: &N,
     alloc: Global,
@@ -39,8 +40,8 @@ pub(crate) fn assign<N: Numbers>(
     target: &Word,
     value: &Expr,
 ) -> Result<Prepared, NoMemory>
-    requires { HasValue (N.numbers numbers.now).names.scope (expr_meant value.now) }
-    ensures { IfOk result (λ behind. Adds (assign_piece (N.numbers numbers.now).names (start_of before) target.now.name (expr_meant value.now)) before behind) }
+    ensures { IfOk result (λ behind. HasValue (N.numbers numbers.now).names.scope (expr_meant value.now)
+        → Adds (assign_piece (N.numbers numbers.now).names (start_of before) target.now.name (expr_meant value.now)) before behind) }
 {
     let named = numbers.named(alloc, target.name.text())?;
     let (valued, value) = expression(numbers, alloc, before, value)?;
@@ -48,6 +49,7 @@ pub(crate) fn assign<N: Numbers>(
 }
 
 /// The value of an argument, brought into a wire where it is an input, and the lines that store the values more.
+#[tactic(auto, using(crate::proofs::Calling::takes_input, crate::proofs::Calling::takes_binding, crate::proofs::Calling::takes_nothing))]
 fn taken<N: Numbers>(
     numbers: &N,
     alloc: Global,
@@ -56,8 +58,8 @@ fn taken<N: Numbers>(
     instance: &[u8],
     arg: &Arg,
 ) -> Result<(Prepared, Vec<Line>), NoMemory>
-    requires { Suits (N.numbers numbers.now).names.scope instance.now (arg_meant arg.now) }
-    ensures { IfOk result (λ r. TakesOne (N.numbers numbers.now).names instance.now (arg_meant arg.now) before r.0 stores.items r.1.items) }
+    ensures { IfOk result (λ r. Suits (N.numbers numbers.now).names.scope instance.now (arg_meant arg.now)
+        → TakesOne (N.numbers numbers.now).names instance.now (arg_meant arg.now) before r.0 stores.items r.1.items) }
 {
     let part = numbers.part(alloc, instance, arg.formal.name.text())?;
     match part.formal {
@@ -82,8 +84,8 @@ fn all_taken<N: Numbers>(
     instance: &[u8],
     args: &[Arg],
 ) -> Result<(Prepared, Vec<Line>), NoMemory>
-    requires { Each (Suits (N.numbers numbers.now).names.scope instance.now) (map arg_meant args.now) }
-    ensures { IfOk result (λ r. Takes (N.numbers numbers.now).names instance.now (map arg_meant args.now) before r.0 r.1.items) }
+    ensures { IfOk result (λ r. Each (Suits (N.numbers numbers.now).names.scope instance.now) (map arg_meant args.now)
+        → Takes (N.numbers numbers.now).names instance.now (map arg_meant args.now) before r.0 r.1.items) }
 {
     let mut all = before;
     let mut stores = Vec::new(alloc);
@@ -134,17 +136,18 @@ fn formals_of<'a>(alloc: Global, args: &'a [Arg]) -> Result<Vec<&'a [u8]>, NoMem
 }
 
 /// What an in-out is bound to.
+#[tactic(auto, using(crate::proofs::Bindings::bound_none, crate::proofs::Bindings::bound_past, crate::proofs::Bindings::bound_here))]
 fn bound_operand<N: Numbers>(
     numbers: &N,
     alloc: Global,
     args: &[Arg],
-    formals: &Names,
+    names: &Names,
     name: &[u8],
 ) -> Result<Operand, NoMemory>
-    requires { formals.now ≡ formals args.now }
+    requires { names.now ≡ formals args.now }
     ensures { IfOk result (λ o. o ≡ bound_operand (N.numbers numbers.now).names (map arg_meant args.now) (in_lower_case name.now)) }
 {
-    match formals.place(alloc, name)? {
+    match names.place(alloc, name)? {
         None => Ok(Operand::Leaf(0)),
         Some(place) => match args.get(place) {
             None => Ok(Operand::Leaf(0)),
@@ -177,6 +180,7 @@ fn with_bound<N: Numbers>(
 }
 
 /// The call itself.
+#[tactic(auto, using(crate::proofs::Calling::runs_block, crate::proofs::Calling::runs_user))]
 fn run<N: Numbers>(
     numbers: &N,
     alloc: Global,
@@ -213,6 +217,7 @@ fn run<N: Numbers>(
 }
 
 /// A call of an instance.
+#[tactic(auto, using(crate::proofs::Calling::calls))]
 pub(crate) fn call<N: Numbers>(
     numbers: &N,
     alloc: Global,
@@ -220,8 +225,8 @@ pub(crate) fn call<N: Numbers>(
     instance: &Word,
     args: &[Arg],
 ) -> Result<Prepared, NoMemory>
-    requires { Each (Suits (N.numbers numbers.now).names.scope instance.now.name) (map arg_meant args.now) }
-    ensures { IfOk result (λ behind. Adds (call_piece (N.numbers numbers.now) (start_of before) instance.now.name (map arg_meant args.now)) before behind) }
+    ensures { IfOk result (λ behind. Each (Suits (N.numbers numbers.now).names.scope instance.now.name) (map arg_meant args.now)
+        → Adds (call_piece (N.numbers numbers.now) (start_of before) instance.now.name (map arg_meant args.now)) before behind) }
 {
     let name = instance.name.text();
     let (taken, stores) = all_taken(numbers, alloc, before, name, args)?;

@@ -63,6 +63,7 @@ pub(crate) fn with_line(before: Prepared, line: Line) -> Result<Prepared, NoMemo
         arms,
         wires,
     } = before;
+    let _no_source: Option<Source> = None;
     let lines = put(lines, line)?;
     Ok(Prepared {
         lines,
@@ -185,7 +186,7 @@ pub(crate) fn with_arms(before: Prepared, more: &[Arm]) -> Result<Prepared, NoMe
 
 /// The same without lines, and the lines.
 pub(crate) fn opened(alloc: Global, before: Prepared) -> (Prepared, Vec<Line>)
-    ensures { Opens before result.0 result.1 }
+    ensures { Opens before result.0 result.1.items }
 {
     let Prepared {
         lines,
