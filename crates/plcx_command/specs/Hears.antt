@@ -4,7 +4,7 @@ use Rattle.plcx_io.specs.Told.{Tells}
 use Rattle.plcx_types.specs.Limits.{max_file_bytes}
 use Rattle.plcx_meaning.specs.Diagram.{Project}
 use Rattle.plcx_meaning.specs.Evaluate.{Heard}
-use Rattle.plcx_words.specs.Command.{Command, Run, check, compile, simulate, run, bench}
+use Rattle.plcx_words.specs.Command.{Command, Run, check, compile, simulate, run, bench, cycle, migrate, report, cover}
 use Rattle.plcx_simulate.specs.Watching.{HearsAll, HearsFront}
 use Rattle.plcx_command.specs.Answer.{Answer, output, refusal}
 use Rattle.plcx_command.specs.Compiled.{HasDiagrams}
@@ -53,3 +53,7 @@ Hears told Became (Some (compile name)) a = Became []
 Hears told Became (Some (simulate r)) a = HearsRun told Became r a
 Hears told Became (Some (run r)) a = Became []
 Hears told Became (Some (bench n)) a = Became []
+Hears told Became (Some (cycle t)) a = Became []
+Hears told Became (Some (migrate m)) a = Became []
+Hears told Became (Some (report m)) a = Became []
+Hears told Became (Some (cover r)) a = Became []

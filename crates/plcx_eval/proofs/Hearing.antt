@@ -9,7 +9,7 @@ use Rattle.plcx_meaning.specs.Evaluate.{Heard, DiagramState, scan_does, unheard,
 use Rattle.plcx_meaning.specs.Run.{Input, Event, Scan, Again, Machine, Side, Halted, told_of, side_after, tells, after}
 use Rattle.plcx_meaning.specs.Traces.{Line, line, shown_values, lines_from, side_at_end}
 use Rattle.plcx_meaning.specs.Watch.{heard_of, heard_at, heard_over}
-use Rattle.plcx_eval.specs.Watching.{Listened, listened, hears, with_watch, listened_machine, unwatched, RunsWatched, WatchedRuns, HeardInOrder}
+use Rattle.plcx_eval.specs.Watching.{Lenders, Listened, listened, hears, with_watch, listened_machine, unwatched, RunsWatched, WatchedRuns, HeardInOrder}
 
 module _ {M : Type 0} (tell : M → Heard → M) where
   hears_none : (w : Option M) → w ≡ hears tell [] w
@@ -20,9 +20,9 @@ module _ {M : Type 0} (tell : M → Heard → M) where
   hears_more xs ys None = refl
   hears_more xs ys (Some m) = ap Some (sym (fold-append tell m xs ys))
 
-  module _ (project : Project) (p : Pou) (turns : ℕ) where
+  module _ (n : Lenders) (project : Project) (p : Pou) (turns : ℕ) where
     abbrev machine : Machine (Listened M)
-    machine = listened_machine tell project p
+    machine = listened_machine tell n project p
 
     abbrev alone : Machine DiagramState
     alone = diagram_machine project p
@@ -30,7 +30,7 @@ module _ {M : Type 0} (tell : M → Heard → M) where
     pub tells_same : (e : Event) (g : Side (Listened M)) → tells machine turns e g ≡ tells alone turns e (unwatched g)
     tells_same (Scan time inputs) g = ap (λ t. if g.halted then Halted else t) (by (hears tell (heard_of (scan_does project p turns time inputs g.state.diagram)) g.state.watch) (alone.scan turns time inputs g.state.diagram))
       where
-        by : (w : Option M) (o : Outcome DiagramState (Unit {0})) → told_of (with_watch w o) ≡ told_of o
+        by : (w : Option M) (o : Outcome DiagramState (Unit {0})) → told_of (with_watch g.state.lenders w o) ≡ told_of o
         by w (Ended d u) = refl
         by w (Stopped s d) = refl
         by w Stuck = refl
@@ -40,7 +40,7 @@ module _ {M : Type 0} (tell : M → Heard → M) where
     after_same (Scan time inputs) g = by g.halted (hears tell (heard_of (scan_does project p turns time inputs g.state.diagram)) g.state.watch) (alone.scan turns time inputs g.state.diagram)
       where
         by : (b : Bool) (w : Option M) (o : Outcome DiagramState (Unit {0}))
-            → unwatched (if b then record g { last = time } else side_after time g.state (with_watch w o)) ≡ (if b then record (unwatched g) { last = time } else side_after time g.state.diagram o)
+            → unwatched (if b then record g { last = time } else side_after time g.state (with_watch g.state.lenders w o)) ≡ (if b then record (unwatched g) { last = time } else side_after time g.state.diagram o)
         by true w o = refl
         by false w (Ended d u) = refl
         by false w (Stopped s d) = refl
@@ -51,14 +51,14 @@ module _ {M : Type 0} (tell : M → Heard → M) where
     watch_after (Scan time inputs) g = by g.halted (scan_does project p turns time inputs g.state.diagram)
       where
         by : (b : Bool) (o : Outcome DiagramState (Unit {0}))
-            → (if b then record g { last = time } else side_after time g.state (with_watch (hears tell (heard_of o) g.state.watch) (unheard o))).state.watch ≡ hears tell (if b then [] else heard_of o) g.state.watch
+            → (if b then record g { last = time } else side_after time g.state (with_watch g.state.lenders (hears tell (heard_of o) g.state.watch) (unheard o))).state.watch ≡ hears tell (if b then [] else heard_of o) g.state.watch
         by true o = hears_none g.state.watch
         by false (Ended d u) = refl
         by false (Stopped s d) = refl
         by false Stuck = hears_none g.state.watch
     watch_after (Again r) g = hears_none g.state.watch
 
-    pub runs : (es : List Event) (g : Side (Listened M)) → RunsWatched tell project p turns es g
+    pub runs : (es : List Event) (g : Side (Listened M)) → RunsWatched tell n project p turns es g
     runs [] g = record { lines = refl; side = refl; watch = hears_none g.state.watch }
     runs (e ∷ es) g =
         let rest = runs es (after machine turns e g) in
@@ -78,7 +78,7 @@ module _ {M : Type 0} (tell : M → Heard → M) where
         }
 
 pub watched_runs : {M : Type 0} (tell : M → Heard → M) → WatchedRuns tell
-watched_runs tell project p turns es g = runs tell project p turns es g
+watched_runs tell n project p turns es g = runs tell n project p turns es g
 
 pub in_order : HeardInOrder
 in_order project p turns es g zero = (heard_over project p turns es g, refl)

@@ -9,7 +9,7 @@ use Rattle.plcx_meaning.specs.Traces.{side_at_end}
 use Rattle.plcx_meaning.specs.Watch.{heard_at, heard_over}
 use Rattle.plcx_eval.specs.declared.side.DiagramSide.{DiagramSide}
 use Rattle.plcx_eval.specs.declared.watching.Watched.{Watched}
-use Rattle.plcx_eval.specs.Listening.{told_behind, watched_machine, ListensTo, WatchIsTold}
+use Rattle.plcx_eval.specs.Listening.{told_behind, lenders, watched_machine, ListensTo, WatchIsTold}
 use Rattle.plcx_eval.specs.Sides.{diagrams, program, machine_of, StandsFor}
 use Rattle.plcx_eval.specs.Watching.{Listened, listened, hears, unwatched, watched}
 use Rattle.plcx_eval.proofs.Hearing.{runs, after_same, watch_after}
@@ -22,10 +22,10 @@ module _ {M : Type 0} (tell : M → Heard → M) where
 
   pub told_all : WatchIsTold tell
   told_all old new turns es brings g h =
-      let begun = watched (Some old.watch) g in
+      let begun = watched (lenders old) (Some old.watch) g in
       let end = brings begun (record { side = h; watch = refl }) in
       let hs = heard_over (diagrams old.side.now) (program old.side.now) turns es g in
-      let e : Some (fold (told_behind tell) old.watch hs) ≡ Some new.watch = sym (runs (told_behind tell) (diagrams old.side.now) (program old.side.now) turns es begun).watch ∙ end.watch in
+      let e : Some (fold (told_behind tell) old.watch hs) ≡ Some new.watch = sym (runs (told_behind tell) (lenders old) (diagrams old.side.now) (program old.side.now) turns es begun).watch ∙ end.watch in
       let same : fold (told_behind tell) old.watch hs ≡ new.watch = cc in
       sym same ∙ told_behind_all old.watch hs
 
@@ -37,6 +37,6 @@ module _ {M : Type 0} (tell : M → Heard → M) where
       let p = program old.side.now in
       let hs = heard_at project p turns e (unwatched g) in
       record {
-        side = subst (StandsFor new.side.now) (sym (after_same (told_behind tell) project p turns e g)) side;
-        watch = watch_after (told_behind tell) project p turns e g ∙ ap (hears (told_behind tell) hs) h.watch ∙ ap Some (told_behind_all old.watch hs ∙ sym watch);
+        side = subst (StandsFor new.side.now) (sym (after_same (told_behind tell) (lenders old) project p turns e g)) side;
+        watch = watch_after (told_behind tell) (lenders old) project p turns e g ∙ ap (hears (told_behind tell) hs) h.watch ∙ ap Some (told_behind_all old.watch hs ∙ sym watch);
       }

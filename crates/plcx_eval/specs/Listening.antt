@@ -11,15 +11,19 @@ use Rattle.plcx_scan.specs.Sides.{BringsAll}
 use Rattle.plcx_state.specs.Layouts.{Laid}
 use Rattle.plcx_eval.specs.declared.watching.Watched.{Watched}
 use Rattle.plcx_eval.specs.Sides.{diagrams, program, laid_of, held_of, last_of, StandsFor}
-use Rattle.plcx_eval.specs.Watching.{Listened, listened_machine, unwatched}
+use Rattle.plcx_eval.specs.Watching.{Lenders, Listened, listened_machine, unwatched}
 
 -- what a borrowed watch is behind an output
 abbrev pub told_behind : {M : Type 0} → (M → Heard → M) → MutBor M → Heard → MutBor M
 told_behind tell m h = record m { now = tell m.now h }
 
+-- where its diagram and its watch are lent from
+abbrev pub lenders : {M : Type 0} → Watched M → Lenders
+lenders s = record { diagram = s.side.ghost_name; watch = s.watch.ghost_name }
+
 -- the machine of its program
 abbrev pub watched_machine : {M : Type 0} → (M → Heard → M) → Watched M → Machine (Listened (MutBor M))
-watched_machine tell s = listened_machine (told_behind tell) (diagrams s.side.now) (program s.side.now)
+watched_machine tell s = listened_machine (told_behind tell) (lenders s) (diagrams s.side.now) (program s.side.now)
 
 -- it stands for a side of the meaning where its own does, and where its watch is what whoever listens there has become
 pub record ListensTo {M : Type 0} (s : Watched M) (g : Meant (Listened (MutBor M))) : Type 0 where

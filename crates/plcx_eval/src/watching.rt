@@ -22,6 +22,7 @@ impl<'a, 's, W> Watched<'a, 's, W> {
     pub fn new(side: &'s mut DiagramSide<'a>, watch: &'s mut W) -> Watched<'a, 's, W>
         ensures side { result.side.now ≡ side.old }
         ensures watch { result.watch.now ≡ watch.old }
+        ensures same_side { result.side.ghost_name ≡ side.entry.ghost_name }
         ensures same_watch { result.watch.ghost_name ≡ watch.entry.ghost_name }
     {
         Watched { side, watch }

@@ -282,6 +282,8 @@ pub fn carry_over(
     ensures rows { IfOk result (λ carry. AreRowsOf after.now.leaves carry.rows) }
     ensures within { IfOk result (λ carry. AreRowsWithin after.now.leaves carry.rows) }
     ensures lost_within { IfOk result (λ carry. AreLostWithin before.now.leaves carry.lost) }
+    ensures plain { OnOk result (Each HasPlainNames before.now.leaves) }
+    ensures plain_after { OnOk result (Each HasPlainNames after.now.leaves) }
 {
     let old = PathTable::of(alloc, before)?;
     let rows = all_rows(alloc, &old, state, after.leaves())?;

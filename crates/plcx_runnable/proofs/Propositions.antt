@@ -57,7 +57,7 @@ bool_set : IsSet Bool
 bool_set = Coded-set coded_bool
 
 -- what is determined by what holds of it
-determined : {A : Type 0} (P : A → Type 0) → ((a : A) → IsProp (P a)) → ((a b : A) → P a → P b → a ≡ b) → IsProp ((a : A) × P a)
+pub determined : {A : Type 0} (P : A → Type 0) → ((a : A) → IsProp (P a)) → ((a b : A) → P a → P b → a ≡ b) → IsProp ((a : A) × P a)
 determined P prop one x y = Σ_prop_path prop (one x.0 y.0 x.1 y.1)
 
 -- ---- numbers
@@ -66,7 +66,7 @@ placed_prop : (body : Body) (o : Operand) → IsProp (IsPlaced body o)
 placed_prop body (Leaf offset) = le_prop
 placed_prop body (InOut j) = le_prop
 
-within_prop : (body : Body) (width : ℕ) (s : Source) → IsProp (IsWithin body width s)
+pub within_prop : (body : Body) (width : ℕ) (s : Source) → IsProp (IsWithin body width s)
 within_prop body width (Constant v) = Unit-prop
 within_prop body width (Wire w) = le_prop
 within_prop body width (Memory m) = le_prop
@@ -76,7 +76,7 @@ module _ (program : Program) (body : Body) where
   arguments_prop : (width first count : ℕ) → IsProp (AreArguments program body width first count)
   arguments_prop width first count = hlevel (le_prop, within_prop)
 
-  action_prop : (width : ℕ) (a : Action) → IsProp (IsSoundAction program body width a)
+  pub action_prop : (width : ℕ) (a : Action) → IsProp (IsSoundAction program body width a)
   action_prop width (Fix source wire) = hlevel (le_prop, within_prop)
   action_prop width (Write to source) = hlevel (placed_prop, within_prop)
   action_prop width (Keep memory source) = hlevel (le_prop, within_prop)
@@ -102,7 +102,7 @@ module _ (program : Program) (body : Body) where
   at_prop : (pou leaves memories first count : ℕ) (callee : Body) → IsProp (EntersAt pou leaves memories first count callee)
   at_prop pou leaves memories first count callee = hlevel (bodies_set, numbers_set, le_prop, placed_prop)
 
-  enters_prop : (pou leaves memories first count : ℕ) → IsProp (Enters program body pou leaves memories first count)
+  pub enters_prop : (pou leaves memories first count : ℕ) → IsProp (Enters program body pou leaves memories first count)
   enters_prop pou leaves memories first count x y =
       ap from (determined (EntersAt pou leaves memories first count) (at_prop pou leaves memories first count) (λ a b p q. same_Some a b (sym p.0 ∙ q.0)) (to x) (to y))
     where
@@ -184,7 +184,7 @@ module _ (shapes : List Shape) (program : Program) (shape : Shape) (wires : List
       from : ((u : Ty) × Rest u) → IsTypedAction program shape wires (Apply f t first count wire)
       from h = (h.0, h.1.0, h.1.1, h.1.2)
 
-  typed_action_prop : (a : Action) → IsProp (IsTypedAction program shape wires a)
+  pub typed_action_prop : (a : Action) → IsProp (IsTypedAction program shape wires a)
   typed_action_prop (Fix source wire) = λ x y.
       let swap : ((t : Ty) × HasValue wires wire t × IsOf shape wires source t) → (t : Ty) × IsOf shape wires source t × HasValue wires wire t = λ h. (h.0, h.2, h.1) in
       ap swap (typed_by (λ t. HasValue wires wire t) (λ t. IsOf shape wires source t) (value_prop wires wire) (of_prop shape wires source) (one_type wires wire) (x.0, x.2, x.1) (y.0, y.2, y.1))
@@ -222,7 +222,7 @@ module _ (shapes : List Shape) (program : Program) (shape : Shape) (wires : List
     entry_at_prop : (callee : Shape) → IsProp (EntryAt callee)
     entry_at_prop callee = hlevel (shapes_set, types_set, binding_prop)
 
-    entry_prop : IsProp (IsTypedEntry shapes program shape pou leaves memories first count)
+    pub entry_prop : IsProp (IsTypedEntry shapes program shape pou leaves memories first count)
     entry_prop x y =
         ap from (determined EntryAt entry_at_prop (λ a b p q. same_Some a b (sym p.0 ∙ q.0)) (x.callee, (x.is, x.of_leaves, x.of_memories, x.of_in_outs)) (y.callee, (y.is, y.of_leaves, y.of_memories, y.of_in_outs)))
       where

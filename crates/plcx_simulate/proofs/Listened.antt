@@ -10,7 +10,7 @@ use Rattle.plcx_meaning.specs.Watch.{heard_over}
 use Rattle.plcx_scan.specs.Sides.{BringsAll}
 use Rattle.plcx_scan.specs.Texts.{HasTrace, trace_bytes}
 use Rattle.plcx_eval.specs.declared.watching.Watched.{Watched}
-use Rattle.plcx_eval.specs.Listening.{told_behind, watched_machine, ListensTo, WatchIsTold}
+use Rattle.plcx_eval.specs.Listening.{told_behind, lenders, watched_machine, ListensTo, WatchIsTold}
 use Rattle.plcx_eval.specs.Sides.{diagrams, program, machine_of, StandsFor}
 use Rattle.plcx_eval.specs.Watching.{watched, HeardInOrder}
 use Rattle.plcx_eval.proofs.Hearing.{watched_runs}
@@ -26,8 +26,8 @@ module _ {M : Type 0} (tell : M → Heard → M) (old new : Watched M) (turns : 
   -- the texts of its trace are those of the diagram
   trace_is : (es : List Event) (text : List ℕ) → HasTrace (watched_machine tell old) turns es (ListensTo old) text → HasTrace (machine_of old.side.now) turns es (StandsFor old.side.now) text
   trace_is es text has g stands =
-      let h = watched (Some old.watch) g in
-      let run = watched_runs (told_behind tell) (diagrams old.side.now) (program old.side.now) turns es h in
+      let h = watched (lenders old) (Some old.watch) g in
+      let run = watched_runs (told_behind tell) (lenders old) (diagrams old.side.now) (program old.side.now) turns es h in
       has h (record { side = stands; watch = refl })
       ∙ ap (trace_bytes (machine_of old.side.now).layout) (ap₂ (λ ls (d : Side DiagramState). trace_of ls (retained_values (machine_of old.side.now) d)) run.lines run.side)
 

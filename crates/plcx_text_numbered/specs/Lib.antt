@@ -3,5 +3,7 @@ pub mod Setting
 pub mod Prepared
 pub mod Right
 pub mod Statements
+pub mod Numbers
+pub mod Texts
 pub mod Example
 pub mod Laws

@@ -31,9 +31,10 @@ use Rattle.plcx_runnable.proofs.Functions.{gives, few_inputs}
 use Rattle.plcx_text_steps.specs.declared.text.Line.{Line}
 use Rattle.plcx_text_numbered.specs.Prepared.{Numbering, or_bool, wires_of, all_wires, source_of, argument, inputs, arguments_of, all_arguments, group, call_lines, named_lines, lines_of, all_lines}
 use Rattle.plcx_text_numbered.proofs.Values.{Typed, typed_of}
-use Rattle.plcx_text_runnable.specs.Laws.{IsShapeOf, AreTypedNumbers, HasWire, HasWires, HaveWires, CanRun}
+use Rattle.plcx_text_numbered.specs.Texts.{HasWire, HasWires, HaveWires}
+use Rattle.plcx_text_runnable.specs.Laws.{IsShapeOf, AreTypedNumbers, CanRun}
 
-mapped_some : {A B : Type 0} (f : A → B) (o : Option A) (y : B) → option_map f o ≡ Some y → (x : A) × (o ≡ Some x) × (f x ≡ y)
+pub mapped_some : {A B : Type 0} (f : A → B) (o : Option A) (y : B) → option_map f o ≡ Some y → (x : A) × (o ≡ Some x) × (f x ≡ y)
 mapped_some f None y h = absurd (cc)
 mapped_some f (Some x) y h = (x, refl, cc)
 

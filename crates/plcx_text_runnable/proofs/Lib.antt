@@ -1,1 +1,12 @@
 pub mod Expressions
+pub mod Instances
+pub mod Places
+pub mod Bindings
+pub mod Grounds
+pub mod Rights
+pub mod Lines
+pub mod Statements
+pub mod Programs
+pub mod Propositions
+pub mod Laid
+pub mod Standing

@@ -1,9 +1,13 @@
-//! What is prepared of a text meets what a scan asks for.
+//! The text that is prepared of a ready unit does what the unit does, and can be run.
 //!
-//! The law is on the lines of expressions: where the numbers are typed and each call of a function has a wire of its
-//! type, they use each place at its type and stay within their lists.
+//! `Shapes` of the specs says which types the places of an instance have. The laws are on the lines of expressions, and
+//! on whole texts: that their numbers are right, so that a scan is alike the unit's; that they are sound, and use each
+//! place at its type; and that a program stands where there is room.
 #![tactic(auto)]
 
 mod laws;
 
-pub use laws::expressions_can_run;
+pub use laws::{
+    bodies_are_there, expressions_can_run, prepared_can_run, prepared_is_right, programs_stand,
+    texts_are_alike,
+};

@@ -1,3 +1,4 @@
 pub mod OneLines
+pub mod OneFile
 pub mod OneOutcome
 pub mod Made

@@ -25,23 +25,14 @@ use Rattle.plcx_traced.specs.Files.{IsLoaded, IsLong, TellsRetained, IsWrongLine
 use Rattle.plcx_traced.specs.Runs.{Chosen, Begun, IsTraced, WhyNot, ComesTo, AreTold, machine_of, kept_in}
 use Rattle.plcx_traced.specs.declared.error.RunError.{RunError}
 use Rattle.plcx_traced.specs.declared.error.RunError.TheVariants.{NoProgram, RetainedRead, Line, EventsRead, Row, NoMemory}
-use Rattle.plcx_traced.proofs.OneLines.{leaves_same, wrong_line_same, no_wrong_line, kept_same}
+use Rattle.plcx_traced.proofs.OneLines.{leaves_same}
+use Rattle.plcx_traced.proofs.OneFile.{bytes_same, not_long, told_kept, told_line, told_no_line}
 
--- the bytes of a file that is told are one
-bytes_same : (told : Option (List ℕ)) (held a b : List ℕ) → told ≡ Some held → IsLoaded told a → IsLoaded told b → a ≡ b
-bytes_same (Some h) held a b e x y = x.tells ∙ sym y.tells
-bytes_same None held a b e x y = absurd (cc)
-
--- and there are not too many
-not_long : (told : Option (List ℕ)) (held a : List ℕ) → told ≡ Some held → IsLoaded told a → IsLong told → ⊥
-not_long (Some h) held a e x l = let same = ap length x.tells in let short = x.short in omega arith
-not_long None held a e x l = absurd (cc)
-
-chosen_once : {P G : Type 0} (ps : Programs P G) (name : Option (List ℕ)) (p q : P) → IsChosen ps name p → IsChosen ps name q → p ≡ q
+pub chosen_once : {P G : Type 0} (ps : Programs P G) (name : Option (List ℕ)) (p q : P) → IsChosen ps name p → IsChosen ps name q → p ≡ q
 chosen_once ps (Some name) p q h k = cc
 chosen_once ps None p q h k = cc
 
-not_missing : {P G : Type 0} (ps : Programs P G) (name : Option (List ℕ)) (p : P) → IsChosen ps name p → IsMissing ps name → ⊥
+pub not_missing : {P G : Type 0} (ps : Programs P G) (name : Option (List ℕ)) (p : P) → IsChosen ps name p → IsMissing ps name → ⊥
 not_missing ps (Some name) p h k = cc
 not_missing ps None p h k = k (ap length h)
 
@@ -71,36 +62,17 @@ module _ {P G : Type 0} (ps : Programs P G) (told : List ℕ → Option (List �
   begins_same : (retain : Option (List ℕ)) → ((name : List ℕ) → retain ≡ Some name → (bytes : List ℕ) × (told name ≡ Some bytes)) → (leaves : List Leaf) → IsTold leaves
       → (a b : List (Option Value)) → Begins told leaves retain a → Begins told leaves retain b → a ≡ b
   begins_same None is leaves plain a b h k = h ∙ sym k
-  begins_same (Some name) is leaves plain a b h k =
-      let held = is name refl in
-      let same = bytes_same (told name) held.0 h.bytes k.bytes held.1 h.loaded k.loaded in
-      kept_same leaves plain k.bytes a b (subst (λ (bytes : List ℕ). lines.StandsForRetained leaves bytes a) same h.stands) k.stands
+  begins_same (Some name) is leaves plain a b h k = let held = is name refl in told_kept (told name) held.0 held.1 leaves plain a b h k
 
   no_line : (retain : Option (List ℕ)) → ((name : List ℕ) → retain ≡ Some name → (bytes : List ℕ) × (told name ≡ Some bytes)) → (leaves : List Leaf) (kept : List (Option Value)) (line : ℕ)
       → Begins told leaves retain kept → WhyNotBegun told Never leaves retain (Line line) → ⊥
   no_line None is leaves kept line h w = cc
-  no_line (Some name) is leaves kept line h w = by line w
-    where
-      by : (n : ℕ) → IsWrongLine (told name) leaves n → ⊥
-      by n (long l) = let held = is name refl in not_long (told name) held.0 h.bytes held.1 h.loaded l
-      by n (wrong bytes loaded place first) =
-          let held = is name refl in
-          let same = bytes_same (told name) held.0 bytes h.bytes held.1 loaded h.loaded in
-          no_wrong_line leaves h.bytes kept h.stands place (subst (λ (b : List ℕ). lines.IsFirstWrong leaves (lines.file_lines b) place) same first)
+  no_line (Some name) is leaves kept line h w = let held = is name refl in told_no_line (told name) held.0 held.1 leaves kept line h w
 
   line_same : (retain : Option (List ℕ)) → ((name : List ℕ) → retain ≡ Some name → (bytes : List ℕ) × (told name ≡ Some bytes)) → (leaves : List Leaf) (m n : ℕ)
       → WhyNotBegun told Never leaves retain (Line m) → WhyNotBegun told Never leaves retain (Line n) → m ≡ n
   line_same None is leaves m n h k = absurd (cc)
-  line_same (Some name) is leaves m n h k = by m n h k
-    where
-      by : (a b : ℕ) → IsWrongLine (told name) leaves a → IsWrongLine (told name) leaves b → a ≡ b
-      by a b (long l) (long l') = refl
-      by a b (long l) (wrong bytes loaded place first) = let held = is name refl in absurd (not_long (told name) held.0 bytes held.1 loaded l)
-      by a b (wrong bytes loaded place first) (long l) = let held = is name refl in absurd (not_long (told name) held.0 bytes held.1 loaded l)
-      by a b (wrong bytes loaded place first) (wrong bytes' loaded' place' first') =
-          let held = is name refl in
-          let same = bytes_same (told name) held.0 bytes bytes' held.1 loaded loaded' in
-          ap (λ p. p + 1) (wrong_line_same leaves (lines.file_lines bytes') place place' (subst (λ (b : List ℕ). lines.IsFirstWrong leaves (lines.file_lines b) place) same first) first')
+  line_same (Some name) is leaves m n h k = let held = is name refl in told_line (told name) held.0 held.1 leaves m n h k
 
   events_same : (leaves : List Meant) → IsLayout leaves → (es fs : List Event) → TellsEvents (told r.events) leaves es → TellsEvents (told r.events) leaves fs → es ≡ fs
   events_same leaves laid es fs h k =

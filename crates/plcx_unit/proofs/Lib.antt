@@ -1,4 +1,3 @@
-pub mod Inputs
 pub mod Values
 pub mod Folding
 pub mod Acting

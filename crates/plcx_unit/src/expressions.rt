@@ -20,12 +20,13 @@ ghost use Rattle.plcx_known.specs.Owned.{shown_seen};
 ghost use Rattle.plcx_unit.specs.Pieces.{setting_of, IsJudged, AreJudged, value_type, output_type, part_type, member_value, with_type, one_type, two_types};
 
 use crate::first::{broken, broken_if, sooner};
-use crate::functions::{can_have, is_operator, known_result, refuses};
+use crate::functions::refuses;
 use crate::here::Here;
 use crate::pieces::{Judged, Listed, elementary_of, is_instance, literal_broken};
 use plcx_conditions::{Broken, Condition};
 use plcx_funcs::{Func, lookup};
 use plcx_known::{Seen, VarType};
+use plcx_signatures::{call_type, can_have, function_of, is_operator, known_result};
 use plcx_st::{Expr, Number, Op, TextClass, Word};
 use plcx_types::{NoMemory, Ty};
 use std::alloc::Global;
@@ -136,28 +137,6 @@ fn negated(operand: &Judged, at: u64) -> Judged
     }
 }
 
-/// The function of an operator.
-fn function_of(op: Op) -> Func
-    ensures { result ≡ function_of (op_meant op) }
-{
-    match op {
-        Op::Or => Func::Or,
-        Op::Xor => Func::Xor,
-        Op::And => Func::And,
-        Op::Equal => Func::Eq,
-        Op::NotEqual => Func::Ne,
-        Op::Less => Func::Lt,
-        Op::Greater => Func::Gt,
-        Op::LessOrEqual => Func::Le,
-        Op::GreaterOrEqual => Func::Ge,
-        Op::Plus => Func::Add,
-        Op::Minus => Func::Sub,
-        Op::Times => Func::Mul,
-        Op::Divide => Func::Div,
-        Op::Mod => Func::Mod,
-    }
-}
-
 /// An operator between two operands.
 fn joined(op: Op, left: &Judged, right: &Judged) -> Judged
     ensures broken { result.broken ≡ sooner (sooner left.now.broken right.now.broken)
@@ -196,21 +175,6 @@ fn call_broken(
                 broken_if(is_operator(func), Condition::Name, at),
                 broken_if(named && unfit, Condition::Types, at),
             )
-        }
-    }
-}
-
-fn call_type(called: Option<Func>, types: Option<&[Ty]>) -> Option<Ty>
-    ensures { result ≡ option_and_then (call_type called) (option_map (λ s. s.now) types.entry) }
-{
-    match called {
-        None => None,
-        Some(func) => {
-            if is_operator(func) {
-                None
-            } else {
-                known_result(func, types)
-            }
         }
     }
 }

@@ -20,12 +20,34 @@ pub record Run : Type 0 where
   -- the file of the retained values, where one is given
   pub retain : Option Text
 
+-- a run of the tasks of a resource over a list of ticks
+pub record TaskRun : Type 0 where
+  -- the file of the diagrams, and of the resource
+  pub file : Text
+  pub ticks : Text
+  -- the turns that each scan has
+  pub turns : ℕ
+
+-- retained values of an old version of a project for a new one
+pub record Migration : Type 0 where
+  -- the files of both versions
+  pub old : Text
+  pub new : Text
+  -- the program's name in both, where one is given
+  pub program : Option Text
+  -- the file of the old version's retained values
+  pub retain : Text
+
 pub data Command : Type 0 where
   check : (file : Text) → Command
   compile : (file : Text) → Command
   simulate : Run → Command
   run : Run → Command
   bench : (networks : ℕ) → Command
+  cycle : TaskRun → Command
+  migrate : Migration → Command
+  report : Migration → Command
+  cover : Run → Command
 
 -- the turns of a scan where none are given
 abbrev pub usual_turns : ℕ
@@ -60,6 +82,26 @@ run_with a file events turns = record { file = file; events = events; program = 
 abbrev pub run_of : Arguments → Option Run
 run_of a = option_and_then (λ file. option_and_then (λ events. option_map (run_with a file events) (turns_of a.turns)) a.events) a.file
 
+abbrev pub task_run_with : Text → Text → ℕ → TaskRun
+task_run_with file ticks turns = record { file = file; ticks = ticks; turns = turns }
+
+-- a run of tasks needs both of its files, and takes the turns alone of the options
+abbrev pub task_run_of : Arguments → Option TaskRun
+task_run_of a =
+    if is_none a.program && is_none a.retain then
+    option_and_then (λ file. option_and_then (λ ticks. option_map (task_run_with file ticks) (turns_of a.turns)) a.events) a.file
+    else None
+
+abbrev pub migration_with : Arguments → Text → Text → Text → Migration
+migration_with a old new retain = record { old = old; new = new; program = a.program; retain = retain }
+
+-- a migration needs all of its three files, and takes no turns
+abbrev pub migration_of : Arguments → Option Migration
+migration_of a =
+    if is_none a.turns then
+    option_and_then (λ old. option_and_then (λ new. option_map (migration_with a old new) a.retain) a.events) a.file
+    else None
+
 abbrev pub asked : Text → Arguments → Option Command
 asked action a =
     if bytes_eq action (codes "check") then option_map check (alone a)
@@ -67,7 +109,11 @@ asked action a =
     else (if bytes_eq action (codes "simulate") then option_map simulate (run_of a)
     else (if bytes_eq action (codes "run") then option_map run (run_of a)
     else (if bytes_eq action (codes "bench") then option_and_then bench_of (alone a)
-    else None))))
+    else (if bytes_eq action (codes "cycle") then option_map cycle (task_run_of a)
+    else (if bytes_eq action (codes "migrate") then option_map migrate (migration_of a)
+    else (if bytes_eq action (codes "report") then option_map report (migration_of a)
+    else (if bytes_eq action (codes "cover") then option_map cover (run_of a)
+    else None))))))))
 
 abbrev pub asked_by : Arguments → Option Command
 asked_by a = option_and_then (λ action. asked action a) a.action

@@ -1,8 +1,8 @@
 //! What the words ask for: an action with its files, names and numbers.
 ghost use Rattle.std.specs.Prelude.{◌≡◌, Some, None, IfOk};
 ghost use Rattle.std.specs.Option.{option_map};
-ghost use Rattle.plcx_words.specs.Command.{alone, asked, asked_by, bench_of, command_of, has_option, run_of, turns_of};
-ghost use Rattle.plcx_words.specs.Says.{Refuses, said_by, said_by_arguments, said_by_run};
+ghost use Rattle.plcx_words.specs.Command.{alone, asked, asked_by, bench_of, command_of, has_option, migration_of, run_of, task_run_of, turns_of};
+ghost use Rattle.plcx_words.specs.Says.{Refuses, said_by, said_by_arguments, said_by_migration, said_by_run, said_by_task_run};
 
 use crate::arguments::{Arguments, given};
 use crate::error::WordsError;
@@ -24,6 +24,25 @@ pub struct Run<'a> {
     pub retain: Option<&'a str>,
 }
 
+/// A run of the tasks of a resource over a file of ticks.
+#[derive(Clone, Copy, Debug)]
+pub struct TaskRun<'a> {
+    pub file: &'a str,
+    pub ticks: &'a str,
+    /// The turns that each scan has, below 10^18.
+    pub turns: u64,
+}
+
+/// Retained values of an old version of a project for a new one.
+#[derive(Clone, Copy, Debug)]
+pub struct Migration<'a> {
+    pub old: &'a str,
+    pub new: &'a str,
+    /// The program's name in both versions.
+    pub program: Option<&'a str>,
+    pub retain: &'a str,
+}
+
 /// What the words ask for.
 #[derive(Clone, Copy, Debug)]
 pub enum Command<'a> {
@@ -33,6 +52,13 @@ pub enum Command<'a> {
     Run(Run<'a>),
     /// The number of networks, from 1 to 1000.
     Bench(u64),
+    Cycle(TaskRun<'a>),
+    /// The retained lines of the new version.
+    Migrate(Migration<'a>),
+    /// What becomes of each value.
+    Report(Migration<'a>),
+    /// A run of the diagrams whose evaluations are counted.
+    Cover(Run<'a>),
 }
 
 fn has_option(a: &Arguments) -> bool
@@ -75,6 +101,35 @@ fn run_of<'a>(a: &Arguments<'a>) -> Option<Run<'a>>
     })
 }
 
+fn task_run_of<'a>(a: &Arguments<'a>) -> Option<TaskRun<'a>>
+    ensures { option_map said_by_task_run result ≡ task_run_of (said_by_arguments a.now) }
+{
+    if a.program.is_some() || a.retain.is_some() {
+        return None;
+    }
+    let file = a.file?;
+    let ticks = a.events?;
+    let turns = turns_of(a.turns)?;
+    Some(TaskRun { file, ticks, turns })
+}
+
+fn migration_of<'a>(a: &Arguments<'a>) -> Option<Migration<'a>>
+    ensures { option_map said_by_migration result ≡ migration_of (said_by_arguments a.now) }
+{
+    if a.turns.is_some() {
+        return None;
+    }
+    let old = a.file?;
+    let new = a.events?;
+    let retain = a.retain?;
+    Some(Migration {
+        old,
+        new,
+        program: a.program,
+        retain,
+    })
+}
+
 fn bench_of<'a>(text: &str) -> Option<Command<'a>>
     ensures { option_map said_by result ≡ bench_of text.now }
 {
@@ -91,6 +146,10 @@ fn asked<'a>(action: &str, a: &Arguments<'a>) -> Option<Command<'a>>
         "simulate" => Some(Command::Simulate(run_of(a)?)),
         "run" => Some(Command::Run(run_of(a)?)),
         "bench" => bench_of(alone(a)?),
+        "cycle" => Some(Command::Cycle(task_run_of(a)?)),
+        "migrate" => Some(Command::Migrate(migration_of(a)?)),
+        "report" => Some(Command::Report(migration_of(a)?)),
+        "cover" => Some(Command::Cover(run_of(a)?)),
         _ => None,
     }
 }

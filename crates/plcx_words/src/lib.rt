@@ -10,6 +10,6 @@ mod error;
 mod number;
 mod words;
 
-pub use command::{Command, Run, command_of};
+pub use command::{Command, Migration, Run, TaskRun, command_of};
 pub use error::WordsError;
 pub use words::Words;

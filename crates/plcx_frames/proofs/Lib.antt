@@ -1,0 +1,3 @@
+-- Serves the proofs of sides.
+pub mod Kept
+pub mod Scanning

@@ -1,0 +1,2 @@
+-- Frames, and inputs that can be written.
+pub mod Frames

@@ -1,0 +1,3 @@
+-- Leaves, one by one.
+pub mod Leaves
+pub mod Within

@@ -1,0 +1,4 @@
+pub mod Propositions
+pub mod Leaves
+pub mod Types
+pub mod Scans

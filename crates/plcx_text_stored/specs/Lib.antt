@@ -1,0 +1,3 @@
+pub mod LaidFor
+pub mod Between
+pub mod Laws
