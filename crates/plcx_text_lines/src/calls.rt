@@ -135,8 +135,26 @@ fn formals_of<'a>(alloc: Global, args: &'a [Arg]) -> Result<Vec<&'a [u8]>, NoMem
     Ok(names)
 }
 
+/// The first argument of a name.
+fn argument_for<'a>(
+    alloc: Global,
+    args: &'a [Arg],
+    names: &Names,
+    name: &[u8],
+) -> Result<Option<&'a Arg>, NoMemory>
+    ensures { IfOk result (λ arg. option_copied arg ≡ option_and_then (slice_get args.entry.now) (first_place name.now names.now)) }
+{
+    match names.place(alloc, name)? {
+        None => Ok(None),
+        Some(place) => Ok(args.get(place)),
+    }
+}
+
+ghost use Rattle.std.specs.Prelude.{option_copied, option_and_then, slice_get};
+ghost use Rattle.plcx_known.specs.Names.{first_place};
+
 /// What an in-out is bound to.
-#[tactic(auto, using(crate::proofs::Bindings::bound_none, crate::proofs::Bindings::bound_past, crate::proofs::Bindings::bound_here))]
+#[tactic(auto, using(crate::proofs::Bindings::bound_none, crate::proofs::Bindings::bound_here))]
 fn bound_operand<N: Numbers>(
     numbers: &N,
     alloc: Global,
@@ -147,18 +165,16 @@ fn bound_operand<N: Numbers>(
     requires { names.now ≡ formals args.now }
     ensures { IfOk result (λ o. o ≡ bound_operand (N.numbers numbers.now).names (map arg_meant args.now) (in_lower_case name.now)) }
 {
-    match names.place(alloc, name)? {
+    match argument_for(alloc, args, names, name)? {
         None => Ok(Operand::Leaf(0)),
-        Some(place) => match args.get(place) {
-            None => Ok(Operand::Leaf(0)),
-            Some(arg) => Ok(operand_in(numbers, alloc, &arg.value)?),
-        },
+        Some(arg) => Ok(operand_in(numbers, alloc, &arg.value)?),
     }
 }
 
 ghost use Rattle.plcx_types.specs.Name.{in_lower_case};
 
 /// What in-outs of these names are bound to.
+#[tactic(auto, using(crate::proofs::Calling::bound_more, crate::proofs::Calling::bound_end))]
 fn with_bound<N: Numbers>(
     numbers: &N,
     alloc: Global,

@@ -63,6 +63,7 @@ pub(crate) fn with_line(before: Prepared, line: Line) -> Result<Prepared, NoMemo
         arms,
         wires,
     } = before;
+    let _no_action: Option<Action> = None;
     let _no_source: Option<Source> = None;
     let lines = put(lines, line)?;
     Ok(Prepared {
