@@ -11,7 +11,7 @@ ghost use Rattle.plcx_text_pieces.specs.Pieces.{nothing, assign_piece, bindings_
 ghost use Rattle.plcx_text_lines.specs.Shown.{shown_place, shown_callee};
 ghost use Rattle.plcx_text_lines.specs.Added.{start_of, Adds, HasValue, Suits, TakesOne, Takes, formals};
 
-use crate::emitting::{Prepared, fixed, put, with_binding, with_line, with_lines};
+use crate::emitting::{Prepared, fixed, put, with_bindings, with_line, with_lines};
 use crate::expressions::expression;
 use crate::numbers::{Callee, Formal, Numbers, Place};
 use plcx_known::Names;
@@ -174,25 +174,20 @@ fn bound_operand<N: Numbers>(
 ghost use Rattle.plcx_types.specs.Name.{in_lower_case};
 
 /// What in-outs of these names are bound to.
-#[tactic(auto, using(crate::proofs::Calling::bound_more, crate::proofs::Calling::bound_end))]
-fn with_bound<N: Numbers>(
+fn bound_operands<N: Numbers>(
     numbers: &N,
     alloc: Global,
-    before: Prepared,
     args: &[Arg],
     in_outs: &[&[u8]],
-) -> Result<Prepared, NoMemory>
-    ensures { IfOk result (λ behind. Adds (record nothing {
-      bindings = bound_operands (N.numbers numbers.now).names (map arg_meant args.now) (map (λ n. in_lower_case n.now) in_outs.now);
-    }) before behind) }
+) -> Result<Vec<Operand>, NoMemory>
+    ensures { IfOk result (λ operands. operands.items ≡ bound_operands (N.numbers numbers.now).names (map arg_meant args.now) (map (λ n. in_lower_case n.now) in_outs.now)) }
 {
     let formals = Names::of(alloc, formals_of(alloc, args)?)?;
-    let mut all = before;
+    let mut operands = Vec::new(alloc);
     for name in in_outs {
-        let operand = bound_operand(numbers, alloc, args, &formals, *name)?;
-        all = with_binding(all, operand)?;
+        operands.push(bound_operand(numbers, alloc, args, &formals, *name)?)?;
     }
-    Ok(all)
+    Ok(operands)
 }
 
 /// The call itself.
@@ -227,7 +222,8 @@ fn run<N: Numbers>(
                 count,
             };
             let called = with_line(before, line)?;
-            Ok(with_bound(numbers, alloc, called, args, in_outs)?)
+            let operands = bound_operands(numbers, alloc, args, in_outs)?;
+            Ok(with_bindings(called, &operands)?)
         }
     }
 }

@@ -139,19 +139,19 @@ pub(crate) fn with_arguments(before: Prepared, more: &[Argument]) -> Result<Prep
     })
 }
 
-/// A binding more.
-pub(crate) fn with_binding(before: Prepared, binding: Operand) -> Result<Prepared, NoMemory>
-    ensures { IfOk result (λ behind. Adds (record nothing { bindings = binding ∷ [] }) before behind) }
+/// Bindings more.
+pub(crate) fn with_bindings(before: Prepared, more: &[Operand]) -> Result<Prepared, NoMemory>
+    ensures { IfOk result (λ behind. Adds (record nothing { bindings = more.now }) before behind) }
 {
     let Prepared {
         lines,
         arguments,
-        bindings,
+        mut bindings,
         sections,
         arms,
         wires,
     } = before;
-    let bindings = put(bindings, binding)?;
+    bindings.extend_from_slice(more)?;
     Ok(Prepared {
         lines,
         arguments,
