@@ -141,33 +141,13 @@ takes_end c i args k all before stores whole more inv =
     subst (λ (ls : List Line). added.Takes c i whole before all ls) (append-nil stores)
     (inv all [] (subst (λ (es : List Argument). added.Takes c i es all all []) (sym (rest_none arg_meant args k more)) (takes_none c i all)))
 
--- a name without case
-abbrev pub lower_of : Bor (List ℕ) → List ℕ
-lower_of n = in_lower_case n.now
-
--- bindings of these operands
-abbrev pub AddsBindings : List Operand → Prepared → Prepared → Type 0
-AddsBindings os before behind = Adds (record nothing { bindings = os }) before behind
-
--- the bindings, whatever the rest of the names adds
-abbrev pub GoesBound : Numbering → List Argument → List (Bor (List ℕ)) → ℕ → Prepared → Prepared → Type 0
-GoesBound c args names k all before = (behind : Prepared) → AddsBindings (bound_operands c args (map lower_of (drop k names))) all behind → AddsBindings (bound_operands c args (map lower_of names)) before behind
-
-pub bound_more : (c : Numbering) (args : List Argument) (names : List (Bor (List ℕ))) (k : ℕ) (x : Bor (List ℕ)) (o : Operand) (all next before : Prepared) → k < length names → x ≡ get_or names k x → o ≡ bound_operand c args (lower_of x)
-    → AddsBindings (o ∷ []) all next → GoesBound c args names k all before → GoesBound c args names (k + 1) next before
-bound_more c args names k x o all next before less is value one inv behind h =
-    let first : AddsBindings (bound_operand c args (lower_of x) ∷ []) all next = subst (λ (p : Operand). AddsBindings (p ∷ []) all next) value one in
-    inv behind (subst (λ (ns : List (List ℕ)). AddsBindings (bound_operands c args ns) all behind) (sym (rest_more lower_of names k x less is)) (adds_then _ _ all next behind first h))
-
-pub bound_end : (c : Numbering) (args : List Argument) (names : List (Bor (List ℕ))) (k : ℕ) (all before : Prepared) → length names ≤ k → GoesBound c args names k all before → AddsBindings (bound_operands c args (map lower_of names)) before all
-bound_end c args names k all before more inv = inv all (subst (λ (ns : List (List ℕ)). AddsBindings (bound_operands c args ns) all all) (sym (rest_none lower_of names k more)) (adds_nothing all))
-
 -- ---- the call itself
 
 pub runs_block : (c : Numbering) (kind : StdKind) (leaf first : ℕ) (args : List Argument) (before behind : Prepared) → Adds (one_line (line.Act (action.Standard kind leaf))) before behind
     → Adds (record nothing { lines = called_lines (Block kind leaf) first; bindings = bindings_for c (Block kind leaf) args }) before behind
 runs_block c kind leaf first args before behind h = h
 
-pub runs_user : (c : Numbering) (pou leaves first : ℕ) (names : List (List ℕ)) (args : List Argument) (before called behind : Prepared) (l : Line) → Adds (one_line l) before called → l ≡ line.Call pou leaves first (length names)
-    → AddsBindings (bound_operands c args names) called behind → Adds (record nothing { lines = called_lines (User pou leaves names) first; bindings = bindings_for c (User pou leaves names) args }) before behind
-runs_user c pou leaves first names args before called behind l one is more = adds_then _ _ before called behind (subst (λ (m : Line). Adds (one_line m) before called) is one) more
+pub runs_user : (c : Numbering) (pou leaves first : ℕ) (names : List (List ℕ)) (args : List Argument) (before called behind : Prepared) (l : Line) (os : List Operand) → Adds (one_line l) before called → l ≡ line.Call pou leaves first (length names)
+    → Adds (record nothing { bindings = os }) called behind → os ≡ bound_operands c args names → Adds (record nothing { lines = called_lines (User pou leaves names) first; bindings = bindings_for c (User pou leaves names) args }) before behind
+runs_user c pou leaves first names args before called behind l os one is more same =
+    adds_then _ _ before called behind (subst (λ (m : Line). Adds (one_line m) before called) is one) (subst (λ (ps : List Operand). Adds (record nothing { bindings = ps }) called behind) same more)

@@ -11,7 +11,7 @@ ghost use Rattle.plcx_text_pieces.specs.Pieces.{nothing, assign_piece, bindings_
 ghost use Rattle.plcx_text_lines.specs.Shown.{shown_place, shown_callee};
 ghost use Rattle.plcx_text_lines.specs.Added.{start_of, Adds, HasValue, Suits, TakesOne, Takes, formals};
 
-use crate::emitting::{Prepared, fixed, put, with_binding, with_line, with_lines};
+use crate::emitting::{Prepared, fixed, put, with_bindings, with_line, with_lines};
 use crate::expressions::expression;
 use crate::numbers::{Callee, Formal, Numbers, Place};
 use plcx_known::Names;
@@ -135,8 +135,26 @@ fn formals_of<'a>(alloc: Global, args: &'a [Arg]) -> Result<Vec<&'a [u8]>, NoMem
     Ok(names)
 }
 
+/// The first argument of a name.
+fn argument_for<'a>(
+    alloc: Global,
+    args: &'a [Arg],
+    names: &Names,
+    name: &[u8],
+) -> Result<Option<&'a Arg>, NoMemory>
+    ensures { IfOk result (λ arg. option_copied arg ≡ option_and_then (slice_get args.entry.now) (first_place name.now names.now)) }
+{
+    match names.place(alloc, name)? {
+        None => Ok(None),
+        Some(place) => Ok(args.get(place)),
+    }
+}
+
+ghost use Rattle.std.specs.Prelude.{option_copied, option_and_then, slice_get};
+ghost use Rattle.plcx_known.specs.Names.{first_place};
+
 /// What an in-out is bound to.
-#[tactic(auto, using(crate::proofs::Bindings::bound_none, crate::proofs::Bindings::bound_past, crate::proofs::Bindings::bound_here))]
+#[tactic(auto, using(crate::proofs::Bindings::bound_none, crate::proofs::Bindings::bound_here))]
 fn bound_operand<N: Numbers>(
     numbers: &N,
     alloc: Global,
@@ -147,36 +165,29 @@ fn bound_operand<N: Numbers>(
     requires { names.now ≡ formals args.now }
     ensures { IfOk result (λ o. o ≡ bound_operand (N.numbers numbers.now).names (map arg_meant args.now) (in_lower_case name.now)) }
 {
-    match names.place(alloc, name)? {
+    match argument_for(alloc, args, names, name)? {
         None => Ok(Operand::Leaf(0)),
-        Some(place) => match args.get(place) {
-            None => Ok(Operand::Leaf(0)),
-            Some(arg) => Ok(operand_in(numbers, alloc, &arg.value)?),
-        },
+        Some(arg) => Ok(operand_in(numbers, alloc, &arg.value)?),
     }
 }
 
 ghost use Rattle.plcx_types.specs.Name.{in_lower_case};
 
 /// What in-outs of these names are bound to.
-fn with_bound<N: Numbers>(
+fn bound_operands<N: Numbers>(
     numbers: &N,
     alloc: Global,
-    before: Prepared,
     args: &[Arg],
     in_outs: &[&[u8]],
-) -> Result<Prepared, NoMemory>
-    ensures { IfOk result (λ behind. Adds (record nothing {
-      bindings = bound_operands (N.numbers numbers.now).names (map arg_meant args.now) (map (λ n. in_lower_case n.now) in_outs.now);
-    }) before behind) }
+) -> Result<Vec<Operand>, NoMemory>
+    ensures { IfOk result (λ operands. operands.items ≡ bound_operands (N.numbers numbers.now).names (map arg_meant args.now) (map (λ n. in_lower_case n.now) in_outs.now)) }
 {
     let formals = Names::of(alloc, formals_of(alloc, args)?)?;
-    let mut all = before;
+    let mut operands = Vec::new(alloc);
     for name in in_outs {
-        let operand = bound_operand(numbers, alloc, args, &formals, *name)?;
-        all = with_binding(all, operand)?;
+        operands.push(bound_operand(numbers, alloc, args, &formals, *name)?)?;
     }
-    Ok(all)
+    Ok(operands)
 }
 
 /// The call itself.
@@ -211,7 +222,8 @@ fn run<N: Numbers>(
                 count,
             };
             let called = with_line(before, line)?;
-            Ok(with_bound(numbers, alloc, called, args, in_outs)?)
+            let operands = bound_operands(numbers, alloc, args, in_outs)?;
+            Ok(with_bindings(called, &operands)?)
         }
     }
 }

@@ -1,4 +1,4 @@
-use Rattle.std.proofs.Common.{List, map, refl, sym, subst}
+use Rattle.std.proofs.Common.{map, length}
 use Rattle.plcx_st.specs.Meant.{expr_meant, op_meant}
 use Rattle.plcx_st.proofs.Views.{number_view, name_view, member_view, call_view, not_view, binary_view}
 use Rattle.plcx_text_lines.specs.Added.{HasValue}
@@ -9,13 +9,13 @@ use Rattle.plcx_text_lines.proofs.expressions.+expression.Goals as goal
 
 pub expression-returns-in-Number : goal.expression-returns-in-Number
 expression-returns-in-Number g t c =
-    rw (c.in-Number.is, number_view) (λ has. record { added = adds_nothing c.args.before; value = c.number.ensures (g.N.Numbers.numbers c.args.numbers.now).names _ has.1.range })
+    rw (c.in-Number.is, number_view) (λ has. record { added = adds_nothing c.args.before; value = c.number.ensures (g.N.Numbers.numbers c.args.numbers.now).names (length c.args.before.wires.items) has.1.range })
 
 pub expression-returns-in_ok-argument-in-Name : goal.expression-returns-in_ok-argument-in-Name
-expression-returns-in_ok-argument-in-Name g t c = rw (c.in-Name.is, name_view) (λ has. record { added = adds_nothing c.args.before; value = c.in_ok-argument-in-Name.ensures _ })
+expression-returns-in_ok-argument-in-Name g t c = rw (c.in-Name.is, name_view) (λ has. record { added = adds_nothing c.args.before; value = c.in_ok-argument-in-Name.ensures (length c.args.before.wires.items) })
 
 pub expression-returns-in_ok-argument-in-Member : goal.expression-returns-in_ok-argument-in-Member
-expression-returns-in_ok-argument-in-Member g t c = rw (c.in-Member.is, member_view) (λ has. record { added = adds_nothing c.args.before; value = c.in_ok-argument-in-Member.ensures _ })
+expression-returns-in_ok-argument-in-Member g t c = rw (c.in-Member.is, member_view) (λ has. record { added = adds_nothing c.args.before; value = c.in_ok-argument-in-Member.ensures (length c.args.before.wires.items) })
 
 pub expression-returns-in_ok-called-in-Call : goal.expression-returns-in_ok-called-in-Call
 expression-returns-in_ok-called-in-Call g t c =
@@ -50,10 +50,10 @@ expression-returns-in_ok-joined-in-Binary g t c =
 pub expressions-loop-x-preserved : goal.expressions-loop-x-preserved
 expressions-loop-x-preserved g t c =
     let names = (g.N.Numbers.numbers c.args.numbers.now).names in
-    λ each. brings_more names c.args.args.now c.loop-x.x-index c.x-item.result c.loop-x.all c.in_ok-next.next c.args.before c.loop-x.inputs.items c.in_ok-inputs.inputs.items c.in_ok-next.input _ c.loop-x-test.true c.x-item.is
+    λ each. brings_more names c.args.args.now c.loop-x.x-index c.x-item.result c.loop-x.all c.in_ok-next.next c.args.before c.loop-x.inputs.items c.in_ok-inputs.inputs.items c.in_ok-next.input (map expr_meant c.args.args.now) c.loop-x-test.true c.x-item.is
     (c.in_ok-next.ensures (each_of (HasValue names.scope) expr_meant c.args.args.now c.loop-x.x-index c.x-item.result each c.loop-x-test.true c.x-item.is)) c.in_ok-inputs.ensures (c.loop-x.invariant each)
 
 pub expressions-returns : goal.expressions-returns
 expressions-returns g t c =
     let names = (g.N.Numbers.numbers c.args.numbers.now).names in
-    λ each. brings_end names c.args.args.now c.loop-x.x-index c.loop-x.all c.args.before c.loop-x.inputs.items _ c.loop-x-test.false (c.loop-x.invariant each)
+    λ each. brings_end names c.args.args.now c.loop-x.x-index c.loop-x.all c.args.before c.loop-x.inputs.items (map expr_meant c.args.args.now) c.loop-x-test.false (c.loop-x.invariant each)

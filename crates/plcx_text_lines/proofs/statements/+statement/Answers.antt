@@ -1,4 +1,4 @@
-use Rattle.std.proofs.Common.{List, map, refl, sym, subst}
+use Rattle.std.proofs.Common.{map}
 use Rattle.plcx_types.specs.declared.ty.Ty.TheVariants as ty
 use Rattle.plcx_meaning.specs.Tree.{statements, arms}
 use Rattle.plcx_meaning.specs.Ready.{StatementIsReady}
@@ -50,29 +50,29 @@ statement-returns-in_ok-choice-in-Case g t c =
 pub statements-loop-s-preserved : goal.statements-loop-s-preserved
 statements-loop-s-preserved g t c =
     let n = g.N.Numbers.numbers c.args.numbers.now in
-    λ each. states_more n c.args.body.now c.loop-s.s-index c.s-item.result c.loop-s.all c.in_ok-all.all c.args.before _ c.loop-s-test.true c.s-item.is
+    λ each. states_more n c.args.body.now c.loop-s.s-index c.s-item.result c.loop-s.all c.in_ok-all.all c.args.before (statements (map stmt_meant c.args.body.now)) c.loop-s-test.true c.s-item.is
     (c.in_ok-all.ensures (each_of (StatementIsReady n.names.scope) stmt_meant c.args.body.now c.loop-s.s-index c.s-item.result each c.loop-s-test.true c.s-item.is)) (c.loop-s.invariant each)
 
 pub statements-returns : goal.statements-returns
 statements-returns g t c =
     let n = g.N.Numbers.numbers c.args.numbers.now in
-    λ each. states_end n c.args.body.now c.loop-s.s-index c.loop-s.all c.args.before _ c.loop-s-test.false (c.loop-s.invariant each)
+    λ each. states_end n c.args.body.now c.loop-s.s-index c.loop-s.all c.args.before (statements (map stmt_meant c.args.body.now)) c.loop-s-test.false (c.loop-s.invariant each)
 
-pub section-returns-in_ok-closed : goal.section-returns-in_ok-closed
-section-returns-in_ok-closed g t c =
+pub section-returns : goal.section-returns
+section-returns g t c =
     let n = g.N.Numbers.numbers c.args.numbers.now in
     let closes = rw c.pou.ensures at c.in_ok-closed.ensures in
-    λ each. adds_boxed n.pou (statements_piece n (statements (map stmt_meant c.args.body.now))) c.args.before c.opened.result.0 c.in_ok-done.done c.in_ok-closed.field-0.0 c.opened.result.1.items c.in_ok-closed.field-0.1 c.opened.ensures
+    λ each. adds_boxed n.pou (statements_piece n (statements (map stmt_meant c.args.body.now))) c.args.before c.opened-inner.result.0 c.in_ok-done.done c.in_ok-closed.field-0.0 c.opened-inner.result.1.items c.in_ok-closed.field-0.1 c.opened-inner.ensures
     (c.in_ok-done.ensures each) closes
 
 pub sections-loop-arm-preserved : goal.sections-loop-arm-preserved
 sections-loop-arm-preserved g t c =
     let n = g.N.Numbers.numbers c.args.numbers.now in
     let within = rw c.as_slice.ensures at c.in_ok-next.ensures in
-    λ each. arms_more n c.args.arms.now c.loop-arm.arm-index c.arm-item.result c.loop-arm.all c.in_ok-next.next c.args.before c.loop-arm.choices.items c.in_ok-choices.choices.items c.in_ok-next.section _ c.loop-arm-test.true c.arm-item.is
+    λ each. arms_more n c.args.arms.now c.loop-arm.arm-index c.arm-item.result c.loop-arm.all c.in_ok-next.next c.args.before c.loop-arm.choices.items c.in_ok-choices.choices.items c.in_ok-next.section (arms (map arm_meant c.args.arms.now)) c.loop-arm-test.true c.arm-item.is
     (within (each_of (ArmIsReady n.names.scope) arm_meant c.args.arms.now c.loop-arm.arm-index c.arm-item.result each c.loop-arm-test.true c.arm-item.is)) c.in_ok-choices.ensures (c.loop-arm.invariant each)
 
 pub sections-returns : goal.sections-returns
 sections-returns g t c =
     let n = g.N.Numbers.numbers c.args.numbers.now in
-    λ each. arms_end n c.args.arms.now c.loop-arm.arm-index c.loop-arm.all c.args.before c.loop-arm.choices.items _ c.loop-arm-test.false (c.loop-arm.invariant each)
+    λ each. arms_end n c.args.arms.now c.loop-arm.arm-index c.loop-arm.all c.args.before c.loop-arm.choices.items (arms (map arm_meant c.args.arms.now)) c.loop-arm-test.false (c.loop-arm.invariant each)
