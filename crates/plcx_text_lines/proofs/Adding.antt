@@ -1,10 +1,9 @@
 -- Pieces behind one another.
-use Rattle.std.proofs.Common.{◌≡◌, ℕ, ◌+◌, List, [], ◌∷◌, ◌++◌, length, map, refl, sym, ap, ap₂, ◌∙◌, subst, append_assoc}
+use Rattle.std.proofs.Common.{◌≡◌, ℕ, ◌+◌, List, [], ◌∷◌, ◌++◌, length, map, sym, ap, ap₂, ◌∙◌, subst, append_assoc}
 use Rattle.std.proofs.lemmas.List.{append-nil, length-append, length-map}
 use Rattle.plcx_types.specs.Value.{Value}
 use Rattle.plcx_steps.specs.declared.program.Argument.{Argument}
 use Rattle.plcx_text_steps.specs.declared.text.Line.{Line}
-use Rattle.plcx_text_steps.specs.declared.text.Arm.{Arm}
 use Rattle.plcx_text_steps.specs.declared.text.Section.{Section}
 use Rattle.plcx_text_pieces.specs.Pieces.{Part, Piece, Start, nothing, joined, after, boxed}
 use Rattle.plcx_text_lines.specs.declared.emitting.Prepared.{Prepared}

@@ -1,12 +1,12 @@
 -- What expressions add, by what their parts add.
-use Rattle.std.proofs.Common.{◌≡◌, ℕ, zero, suc, ◌+◌, ◌<◌, ◌≤◌, List, [], ◌∷◌, ◌++◌, length, map, Option, Some, None, refl, sym, ap, ap₂, ◌∙◌, subst, append_assoc, drop, get_or, arith}
+use Rattle.std.proofs.Common.{◌≡◌, ℕ, zero, suc, ◌+◌, ◌<◌, ◌≤◌, List, [], ◌∷◌, ◌++◌, length, map, Option, Some, refl, sym, ap, ap₂, ◌∙◌, subst, append_assoc, drop, get_or, arith}
 use Rattle.std.proofs.lemmas.List.{append-nil, at_drop_more, at_drop_all}
 use Rattle.plcx_types.specs.declared.ty.Ty.{Ty}
 use Rattle.plcx_types.specs.Lists.{Each}
 use Rattle.plcx_funcs.specs.declared.func.Func.{Func}
 use Rattle.plcx_funcs.specs.declared.func.Func.TheVariants as func
 use Rattle.plcx_funcs.specs.Names.{function_named}
-use Rattle.plcx_meaning.specs.Tree.{Operator, Expression, Apply, Not, Binary, Expressions, expressions}
+use Rattle.plcx_meaning.specs.Tree.{Operator, Expression, Apply, Not, Binary, expressions}
 use Rattle.plcx_meaning.specs.Execute.{function_of}
 use Rattle.plcx_meaning.specs.Typed.{result_type, call_type, expression_type}
 use Rattle.plcx_st.specs.declared.tree.Expr.{Expr}

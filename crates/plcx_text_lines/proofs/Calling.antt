@@ -1,8 +1,7 @@
 -- What assignments and calls add, by what their parts add.
-use Rattle.std.proofs.Common.{◌≡◌, ℕ, ◌+◌, ◌<◌, ◌≤◌, Bor, List, [], ◌∷◌, ◌++◌, length, map, Option, Some, None, refl, sym, ap, ap₂, ◌∙◌, subst, append_assoc, drop, get_or, arith}
+use Rattle.std.proofs.Common.{◌≡◌, ℕ, ◌+◌, ◌<◌, ◌≤◌, List, [], ◌∷◌, ◌++◌, length, map, refl, sym, ap, ap₂, ◌∙◌, subst, append_assoc, drop, get_or}
 use Rattle.std.proofs.lemmas.List.{append-nil, length-append}
 use Rattle.plcx_types.specs.declared.ty.Ty.{Ty}
-use Rattle.plcx_types.specs.Name.{in_lower_case}
 use Rattle.plcx_std.specs.declared.kind.StdKind.{StdKind}
 use Rattle.plcx_meaning.specs.Tree.{Expression, Argument}
 use Rattle.plcx_meaning.specs.Execute.{Formal, Takes, Binds, NoFormal}
@@ -16,11 +15,11 @@ use Rattle.plcx_steps.specs.declared.program.Argument.{Argument as Input}
 use Rattle.plcx_steps.specs.declared.program.Action.TheVariants as action
 use Rattle.plcx_text_steps.specs.declared.text.Line.{Line}
 use Rattle.plcx_text_steps.specs.declared.text.Line.TheVariants as line
-use Rattle.plcx_text_numbered.specs.Prepared.{Numbering, wires_of, source_of, argument}
+use Rattle.plcx_text_numbered.specs.Prepared.{Numbering, source_of, argument}
 use Rattle.plcx_text_numbered.specs.Statements.{formal_of, taken_wires, store_line, store_one, store_lines}
-use Rattle.plcx_text_numbered.specs.Numbers.{bound_operand, bound_operands}
+use Rattle.plcx_text_numbered.specs.Numbers.{bound_operands}
 use Rattle.plcx_text_pieces.specs.Called.{Callee, Block, User, Numbers}
-use Rattle.plcx_text_pieces.specs.Pieces.{Piece, Start, nothing, joined, after, one_line, wire_value, wire_values, value_piece, assign_piece, fixed_piece, taken_piece, all_taken_piece, bindings_for, called_lines, run_piece, call_piece}
+use Rattle.plcx_text_pieces.specs.Pieces.{Start, nothing, after, one_line, wire_value, wire_values, value_piece, assign_piece, fixed_piece, taken_piece, all_taken_piece, bindings_for, called_lines, run_piece, call_piece}
 use Rattle.plcx_text_pieces.proofs.Values.{wires_count}
 use Rattle.plcx_text_lines.specs.declared.emitting.Prepared.{Prepared}
 use Rattle.plcx_text_lines.specs.Added as added

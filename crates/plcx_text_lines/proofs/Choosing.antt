@@ -16,7 +16,7 @@ use Rattle.plcx_text_steps.specs.declared.text.Line.TheVariants as line
 use Rattle.plcx_text_steps.specs.declared.text.Arm.{Arm}
 use Rattle.plcx_text_numbered.specs.Prepared.{source_of}
 use Rattle.plcx_text_pieces.specs.Called.{Numbers}
-use Rattle.plcx_text_pieces.specs.Pieces.{Piece, Start, joined, after, one_line, boxed, value_piece, if_piece, while_piece, chosen_piece, case_piece, statement_piece, statements_piece, arms_piece, choices_of}
+use Rattle.plcx_text_pieces.specs.Pieces.{Piece, Start, after, one_line, boxed, value_piece, if_piece, while_piece, chosen_piece, case_piece, statement_piece, statements_piece, arms_piece, choices_of}
 use Rattle.plcx_text_lines.specs.declared.emitting.Prepared.{Prepared}
 use Rattle.plcx_text_lines.specs.Added.{start_of, Adds, Brings, AddsBoxed, AddsArms, ArmIsReady}
 use Rattle.plcx_text_lines.proofs.Adding.{adds_nothing, adds_then, start_then}

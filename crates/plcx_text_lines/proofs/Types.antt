@@ -1,5 +1,5 @@
 -- The types of expressions by those of their parts, and which parts have values.
-use Rattle.std.proofs.Common.{◌≡◌, ℕ, ◌+◌, Bor, List, [], ◌∷◌, length, map, Option, Some, None, refl, sym, ap, ap₂, ◌∙◌, subst}
+use Rattle.std.proofs.Common.{◌≡◌, ℕ, ◌+◌, Bor, List, [], ◌∷◌, map, Option, Some, None, refl, sym, ap, ap₂, ◌∙◌}
 use Rattle.std.specs.Option.{option_map, option_and_then, option_copied}
 use Rattle.std.specs.Prelude.{slice_get}
 use Rattle.std.proofs.lemmas.Option.{slice_get-map}
@@ -12,8 +12,7 @@ use Rattle.plcx_meaning.specs.Tree.{Operator, Expression, Apply, Not, Binary, Ex
 use Rattle.plcx_meaning.specs.Layout.{Scope}
 use Rattle.plcx_meaning.specs.Functions.{group_index}
 use Rattle.plcx_meaning.specs.Execute.{function_of}
-use Rattle.plcx_meaning.specs.Typed.{result_type, call_type, expression_type, expression_types, IsInRange, AreInRange}
-use Rattle.plcx_meaning.specs.Ready.{ExpressionIsReady}
+use Rattle.plcx_meaning.specs.Typed.{result_type, call_type, expression_type, expression_types, AreInRange}
 use Rattle.plcx_meaning.proofs.Stuck.{and_then_some}
 use Rattle.plcx_steps.specs.declared.program.Argument.{Argument}
 use Rattle.plcx_text_numbered.specs.Prepared.{Numbering, or_bool, wires_of, argument, inputs, group}

@@ -1,5 +1,5 @@
 use Rattle.plcx_st.specs.Meant.{expr_meant}
-use Rattle.std.proofs.Common.{ap, ap₂, ◌∙◌}
+use Rattle.std.proofs.Common.{ap, ◌∙◌}
 use Rattle.plcx_text_numbered.specs.Statements.{store_line}
 use Rattle.plcx_text_lines.proofs.Calling.{assigns}
 use Rattle.plcx_text_lines.proofs.calls.assign.Goals as goal
