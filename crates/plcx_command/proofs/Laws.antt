@@ -1,63 +1,67 @@
 -- What each status was written for.
-use Rattle.std.proofs.Common.{◌≡◌, ◌≢◌, ◌↔◌, ◌∙◌, ℕ, List, [], true, refl, sym, ap, subst, ◌⊎◌, inl, inr, Option, Some, None}
+use Rattle.std.proofs.Common.{◌≡◌, ◌≢◌, ◌↔◌, ◌∙◌, ℕ, Bool, List, [], true, false, true≢false, refl, sym, ap, subst, ◌⊎◌, inl, inr, Option, Some, None}
 use Rattle.std.specs.Prelude.{Ok, Err, unwrap_or}
-use Rattle.plcx_io.specs.Counts.{Rose}
+use Rattle.plcx_io.specs.Told.{Tells}
 use Rattle.plcx_meaning.specs.Evaluate.{Heard}
-use Rattle.plcx_words.specs.Command.{Command, Run, check, compile, simulate, run, bench, cycle, migrate, report, cover}
+use Rattle.plcx_words.specs.Command.{Command, Run, Migration, check, compile, simulate, run, bench, cycle, migrate, report, cover}
 use Rattle.plcx_model.specs.declared.broken.Broken as model
 use Rattle.plcx_state.specs.declared.layout.Leaf.{Leaf}
 use Rattle.plcx_traced.specs.declared.error.RunError.{RunError}
 use Rattle.plcx_traced.specs.declared.error.RunError.TheVariants as error
 use Rattle.plcx_traced.specs.Files.{WhyNotBegun}
+use Rattle.plcx_migrate.specs.declared.migrating.Form.{Form}
+use Rattle.plcx_migrate.specs.declared.migrating.Form.TheVariants.{Lines, Report}
 use Rattle.plcx_command.specs.Answer.{Answer, output, refusal, ok_line, ok_answer, usage_line, usage_answer, read_answer, read_line, broken_line, broken_answer, memory_answer, memory_line, not_built_line, not_built_answer, write_line}
+use Rattle.plcx_command.specs.Causes.{Cause, of_run, of_migration, Stops, Comes, cause_refused, cause_line}
 use Rattle.plcx_command.specs.Ends.{Ends, Change, Written, Gets, GetsFront, Unchanged, MaySay}
-use Rattle.plcx_command.specs.Headline.{IsDefined, project_file, Reads, TellsProject, TellsAll, IsJudged, is_to_come, unread_file, IsReached, first, later, IsRefusal}
-use Rattle.plcx_command.specs.Headline.{CompilesExactly, ChecksExactly, RefusesUsage, RefusesBroken, RefusesNotBuilt, BlamesReads, BlamesWrites, TellsMemory, IsRefusing, WatchesExactly}
+use Rattle.plcx_command.specs.Headline.{IsDefined, project_file, TellsProject, is_to_come, IsReached, first, later, IsRefusal}
+use Rattle.plcx_command.specs.Headline.{CompilesExactly, ChecksExactly, RefusesUsage, RefusesNotBuilt, BlamesReads, BlamesWrites, TellsMemory, IsRefusing, WatchesExactly}
 use Rattle.plcx_command.specs.Hears.{Hears, HearsRun, HearsRefused}
+use Rattle.plcx_command.specs.Migrated.{action_of, OldProgram, NewRead, NewBroken, NewProgram, RetainedRead, Line}
 use Rattle.plcx_command.specs.Refused.{status_of}
-use Rattle.plcx_command.specs.Simulated.{IsSimulated, Simulates, refused_as, error_line}
+use Rattle.plcx_command.specs.Says.{file_of}
 use Rattle.plcx_command.specs.Verdict as verdict
 use Rattle.plcx_command.specs.Verdict.{Verdict, FileVerdict, Within, Passed}
 use Rattle.plcx_command.specs.Compiled.{IsCompiled}
+use Rattle.plcx_command.specs.declared.line.ProjectFile.TheVariants.{First}
 use Rattle.plcx_command.specs.declared.status.Refused.{Refused}
 use Rattle.plcx_command.specs.declared.status.Refused.TheVariants as why'
 use Rattle.plcx_command.specs.declared.status.Status.{Status}
 use Rattle.plcx_command.specs.declared.status.Status.TheVariants as status
-use Rattle.plcx_command.proofs.Found.{tells-same, unread_to_come, IsFollowed, Found, faulty, unbuilt, unread, breaks, accepts, found, Kind, gives, refuses, kind}
+use Rattle.plcx_command.proofs.Found.{tells-same, unread_to_come, IsFollowed, Found, faulty, unbuilt, unread, breaks, accepts, found, IsCauseOver, Kind, gives, refuses, kind}
 use Rattle.plcx_command.proofs.Statuses.{status_for, no_reason, defined-status, done, IsRefusedBy, refused}
 
--- runs are refused for no other reasons
-not_usage : (e : RunError) → refused_as e ≡ why'.Usage → ⊥
-not_usage (error.NoProgram n) h = cc
-not_usage error.RetainedRead h = cc
-not_usage (error.Line n) h = cc
-not_usage error.EventsRead h = cc
-not_usage (error.Row n) h = cc
-not_usage error.NoMemory h = cc
+-- what a run or a migration may be refused for
+abbrev is_for_cause : Refused → Bool
+is_for_cause why'.Usage = false
+is_for_cause why'.NotBuilt = false
+is_for_cause why'.Broken = true
+is_for_cause why'.ReadFault = true
+is_for_cause why'.NoMemory = true
+is_for_cause why'.EventsBroken = true
+is_for_cause why'.NoProgram = true
 
-not_broken : (e : RunError) → refused_as e ≡ why'.Broken → ⊥
-not_broken (error.NoProgram n) h = cc
-not_broken error.RetainedRead h = cc
-not_broken (error.Line n) h = cc
-not_broken error.EventsRead h = cc
-not_broken (error.Row n) h = cc
-not_broken error.NoMemory h = cc
+refused_for : (c : Cause) → is_for_cause (cause_refused c) ≡ true
+refused_for (of_run r (error.NoProgram n)) = refl
+refused_for (of_run r error.RetainedRead) = refl
+refused_for (of_run r (error.Line n)) = refl
+refused_for (of_run r error.EventsRead) = refl
+refused_for (of_run r (error.Row n)) = refl
+refused_for (of_run r error.NoMemory) = refl
+refused_for (of_migration form m (OldProgram n)) = refl
+refused_for (of_migration form m NewRead) = refl
+refused_for (of_migration form m (NewBroken b)) = refl
+refused_for (of_migration form m (NewProgram n)) = refl
+refused_for (of_migration form m RetainedRead) = refl
+refused_for (of_migration form m (Line n)) = refl
 
-not_unbuilt : (e : RunError) → refused_as e ≡ why'.NotBuilt → ⊥
-not_unbuilt (error.NoProgram n) h = cc
-not_unbuilt error.RetainedRead h = cc
-not_unbuilt (error.Line n) h = cc
-not_unbuilt error.EventsRead h = cc
-not_unbuilt (error.Row n) h = cc
-not_unbuilt error.NoMemory h = cc
+not_for : (c : Cause) (why : Refused) → is_for_cause why ≡ false → cause_refused c ≡ why → ⊥
+not_for c why none e = true≢false (sym (refused_for c) ∙ ap is_for_cause e ∙ none)
 
-only_memory : (e : RunError) → refused_as e ≡ why'.NoMemory → e ≡ error.NoMemory
-only_memory (error.NoProgram n) h = absurd (cc)
-only_memory error.RetainedRead h = absurd (cc)
-only_memory (error.Line n) h = absurd (cc)
-only_memory error.EventsRead h = absurd (cc)
-only_memory (error.Row n) h = absurd (cc)
-only_memory error.NoMemory h = refl
+-- the project file of a migration that is read first
+pub file_of_action : (form : Form) (m : Migration) → file_of (action_of form m) ≡ Some m.old
+file_of_action Lines m = refl
+file_of_action Report m = refl
 
 module _ (one_verdict : (bytes : List ℕ) (v w : Verdict) → FileVerdict bytes v → FileVerdict bytes w → v ≡ w)
     (told : List ℕ → Option (List ℕ)) (rose : List ℕ → Type 0) (Became : List Heard → Type 0) where
@@ -88,7 +92,7 @@ module _ (one_verdict : (bytes : List ℕ) (v w : Verdict) → FileVerdict bytes
   usage-found command a line is (breaks b name p v e) = absurd (cc)
   usage-found command a line is (accepts c n name p f) = elim (kind told rose c f.bytes a f.follows) [
     | gives text e ↦ absurd (cc)
-    | refuses r s x i e ↦ let same : refused_as x ≡ why'.Usage = cc in absurd (not_usage x same)
+    | refuses x i e ↦ let same : cause_refused x ≡ why'.Usage = cc in absurd (not_for x why'.Usage refl same)
   ]
 
   none-usage : (command : Option Command) (a : Answer) → command ≡ None → Found told rose command a → a ≡ usage_answer
@@ -123,7 +127,7 @@ module _ (one_verdict : (bytes : List ℕ) (v w : Verdict) → FileVerdict bytes
   unbuilt-found command a line is (breaks b name p v e) = absurd (cc)
   unbuilt-found command a line is (accepts c n name p f) = elim (kind told rose c f.bytes a f.follows) [
     | gives text e ↦ absurd (cc)
-    | refuses r s x i e ↦ let same : refused_as x ≡ why'.NotBuilt = cc in absurd (not_unbuilt x same)
+    | refuses x i e ↦ let same : cause_refused x ≡ why'.NotBuilt = cc in absurd (not_for x why'.NotBuilt refl same)
   ]
 
   to_come-unbuilt : (command : Option Command) (a : Answer) → is_to_come command ≡ true → Found told rose command a → a ≡ not_built_answer
@@ -148,67 +152,16 @@ module _ (one_verdict : (bytes : List ℕ) (v w : Verdict) → FileVerdict bytes
       said : s ≡ status.NotBuilt → Found told rose command ends.answer
       said e = found-refusal why'.NotBuilt command ends.answer (of e).line (λ x. cc) (of e).is ends.said
 
-  -- ---- broken rules
-
-  -- the line of a broken rule
-  record IsBrokenLine (command : Option Command) (line : List ℕ) : Type 0 where
-    pub broken : model.Broken
-    pub line_is : line ≡ broken_line broken
-    pub name : List ℕ
-    pub reads : project_file command ≡ Some name
-    pub judged : (bytes : List ℕ) → told name ≡ Some bytes → FileVerdict bytes (verdict.Broken broken)
-
-  broken-found : (command : Option Command) (a : Answer) (line : List ℕ) → a ≡ refusal why'.Broken line → Found told rose command a → IsBrokenLine command line
-  broken-found command a line is (faulty n e) = absurd (cc)
-  broken-found command a line is (unbuilt t e) = absurd (cc)
-  broken-found command a line is (unread name p r e) = absurd (cc)
-  broken-found command a line is (breaks b name p v e) = record { broken = b; line_is = cc; name = name; reads = p; judged = v }
-  broken-found command a line is (accepts c n name p f) = elim (kind told rose c f.bytes a f.follows) [
-    | gives text e ↦ absurd (cc)
-    | refuses r s x i e ↦ let same : refused_as x ≡ why'.Broken = cc in absurd (not_broken x same)
-  ]
-
-  line-judged : (command : Option Command) (line : List ℕ) (l : IsBrokenLine command line) → TellsProject told command → IsJudged told command (verdict.Broken l.broken)
-  line-judged command line l k = let held = k l.name l.reads in record { name = l.name; bytes = held.0; reads = l.reads; tells = held.1; judged = l.judged held.0 held.1 }
-
   -- the verdict on a file that is accepted
   pub accepted-verdict : (c : Command) (name bytes : List ℕ) (a : Answer) → told name ≡ Some bytes → IsFollowed told rose c name a → FileVerdict bytes verdict.Accepted
   accepted-verdict c name bytes a k f = subst (λ (x : List ℕ). FileVerdict x verdict.Accepted) (tells-same (told name) f.bytes bytes k f.tells) (Within f.short (Passed f.project f.keeps))
-
-  judged-broken : (command : Option Command) (a : Answer) (s : Status) (b : model.Broken) → IsDefined s → s ≡ status_for a → IsJudged told command (verdict.Broken b)
-      → Found told rose command a → s ≡ status.Broken
-  judged-broken command a s b d st j (faulty n e) = let p = j.reads in absurd (cc)
-  judged-broken command a s b d st j (unbuilt t e) = absurd (unread_to_come command j.name t j.reads)
-  judged-broken command a s b d st j (unread name p r e) = absurd (subst IsDefined (st ∙ ap status_for e) d)
-  judged-broken command a s b d st j (breaks b' name p v e) = st ∙ ap status_for e
-  judged-broken command a s b d st j (accepts c n name p f) =
-      let q = j.reads in
-      let same : name ≡ j.name = cc in
-      let accepted = accepted-verdict c name j.bytes a (ap told same ∙ j.tells) f in
-      let both : verdict.Accepted ≡ verdict.Broken b = one_verdict j.bytes verdict.Accepted (verdict.Broken b) accepted j.judged in
-      absurd (cc)
-
-  pub refuses_broken : (command : Option Command) (s : Status) (out err : Change) → Ends told rose Became command s out err → RefusesBroken told command s out err
-  refuses_broken command s out err ends = (
-    (λ k d. (
-      (λ e. ((line e).broken, line-judged command (of e).line (line e) k)),
-      (λ h. let a = answered command s out err d ends in judged-broken command ends.answer s h.0 d a.status h.1 a.found),
-    )),
-    (λ e. ((line e).broken, line-judged command (of e).line (line e), subst (Gets err) (line e).line_is (of e).gets, (of e).quiet)),
-  )
-    where
-      of : s ≡ status.Broken → IsRefusedBy why'.Broken ends.answer out err
-      of e = refused why'.Broken ends.answer s out err e ends.written
-
-      line : (e : s ≡ status.Broken) → IsBrokenLine command (of e).line
-      line e = broken-found command ends.answer (of e).line (of e).is (found-refusal why'.Broken command ends.answer (of e).line (λ x. cc) (of e).is ends.said)
 
   -- ---- outputs of files that are accepted
 
   -- a file that is told is accepted, and then the action answered; or it breaks a rule
   pub data ByVerdict (command : Option Command) (name bytes : List ℕ) (a : Answer) : Type 0 where
     passes : (c : Command) → command ≡ Some c → FileVerdict bytes verdict.Accepted → IsFollowed told rose c name a → ByVerdict command name bytes a
-    fails : (b : model.Broken) → FileVerdict bytes (verdict.Broken b) → a ≡ broken_answer b → ByVerdict command name bytes a
+    fails : (b : model.Broken) → FileVerdict bytes (verdict.Broken b) → a ≡ broken_answer First b → ByVerdict command name bytes a
 
   pub by_verdict : (command : Option Command) (name bytes : List ℕ) (a : Answer) (s : Status) → project_file command ≡ Some name → told name ≡ Some bytes
       → IsDefined s → IsAnswered command a s → ByVerdict command name bytes a
@@ -295,15 +248,25 @@ module _ (one_verdict : (bytes : List ℕ) (v w : Verdict) → FileVerdict bytes
 
   -- ---- faults of the outside, and want of memory
 
-  -- a read fault of a run
-  run-read : (r : Run) (command : Option Command) (c : Command) → command ≡ Some c → c ≡ simulate r → (name : List ℕ) → project_file command ≡ Some name
-      → (a : Answer) (f : IsFollowed told rose c name a)
-      → (e : RunError) → IsSimulated told rose r f.bytes (Err e) → (TellsProject told command → Simulates told rose r (Err e))
-  run-read r command c n is name p a f e i k =
-      let held = k name p in
-      let asks : command ≡ Some (simulate r) = n ∙ ap Some is in
-      let file : name ≡ r.file = let q : Some name ≡ Some r.file = sym p ∙ ap project_file asks in cc in
-      record { bytes = f.bytes; tells = ap told (sym file) ∙ held.1 ∙ ap Some (sym (tells-same (told name) f.bytes held.0 held.1 f.tells)); short = f.short; simulated = i }
+  -- the bytes of the project file that is read first, where it is told
+  own-bytes : (command : Option Command) (c : Command) → command ≡ Some c → (own : List ℕ) → file_of c ≡ Some own → (name : List ℕ) → project_file command ≡ Some name
+      → (bytes : List ℕ) → Tells (told name) bytes → TellsProject told command → told own ≡ Some bytes
+  own-bytes command c n own is name p bytes t k =
+      let held = k name (inl p) in
+      let file : name ≡ own = let q : Some name ≡ Some own = sym p ∙ ap project_file n ∙ is in cc in
+      ap told (sym file) ∙ held.1 ∙ ap Some (sym (tells-same (told name) bytes held.0 held.1 t))
+
+  -- the cause of an accepted file is that of its run, or of its migration
+  pub cause-comes : (some : List ℕ → Type 0) (command : Option Command) (c : Command) → command ≡ Some c → (name : List ℕ) → project_file command ≡ Some name → (a : Answer) (f : IsFollowed told rose c name a)
+      → (cause : Cause) → IsCauseOver told some c f.bytes cause → TellsProject told command → Comes told some cause
+  cause-comes some command c n name p a f (of_run r e) i k =
+      record { bytes = f.bytes; tells = own-bytes command c n r.file (ap file_of i.0) name p f.bytes f.tells k; short = f.short; simulated = i.1 }
+  cause-comes some command c n name p a f (of_migration form m e) i k =
+      record { bytes = f.bytes; tells = own-bytes command c n m.old (ap file_of i.0 ∙ file_of_action form m) name p f.bytes f.tells k; short = f.short; comes = i.1 }
+
+  pub cause-stops : (command : Option Command) (c : Command) → command ≡ Some c → (some : List ℕ → Type 0) (bytes : List ℕ) (cause : Cause) → IsCauseOver told some c bytes cause → Stops command cause
+  cause-stops command c n some bytes (of_run r e) i = n ∙ ap Some i.0
+  cause-stops command c n some bytes (of_migration form m e) i = n ∙ ap Some i.0
 
   record IsReadLine (command : Option Command) (line : List ℕ) : Type 0 where
     pub name : List ℕ
@@ -312,18 +275,27 @@ module _ (one_verdict : (bytes : List ℕ) (v w : Verdict) → FileVerdict bytes
     pub line_is : line ≡ read_line name
 
   retained-read : (command : Option Command) (r : Run) (line : List ℕ) (leaves : List Leaf) (o : Option (List ℕ)) → r.retain ≡ o → line ≡ read_line (unwrap_or o [])
-      → WhyNotBegun told rose leaves o error.RetainedRead → command ≡ Some (simulate r) → (TellsProject told command → Simulates told rose r (Err error.RetainedRead)) → IsReadLine command line
+      → WhyNotBegun told rose leaves o error.RetainedRead → command ≡ Some (simulate r) → (TellsProject told command → Comes told rose (of_run r error.RetainedRead)) → IsReadLine command line
   retained-read command r line leaves None at is h asks comes = absurd (cc)
-  retained-read command r line leaves (Some name) at is h asks comes = record { name = name; reached = later r asks error.RetainedRead at comes; rises = h; line_is = is }
+  retained-read command r line leaves (Some name) at is h asks comes = record { name = name; reached = later (of_run r error.RetainedRead) asks at comes; rises = h; line_is = is }
 
-  run-line : (command : Option Command) (r : Run) (bytes line : List ℕ) (e : RunError) → refused_as e ≡ why'.ReadFault → line ≡ error_line r e → IsSimulated told rose r bytes (Err e)
-      → command ≡ Some (simulate r) → (TellsProject told command → Simulates told rose r (Err e)) → IsReadLine command line
-  run-line command r bytes line (error.NoProgram n) w is i asks comes = absurd (cc)
-  run-line command r bytes line error.RetainedRead w is i asks comes = retained-read command r line i.comes.0.laid.leaves r.retain refl is i.comes.1 asks comes
-  run-line command r bytes line (error.Line n) w is i asks comes = absurd (cc)
-  run-line command r bytes line error.EventsRead w is i asks comes = record { name = r.events; reached = later r asks error.EventsRead refl comes; rises = i.comes.1; line_is = is }
-  run-line command r bytes line (error.Row n) w is i asks comes = absurd (cc)
-  run-line command r bytes line error.NoMemory w is i asks comes = absurd (cc)
+  cause-read : (command : Option Command) (c : Command) (bytes line : List ℕ) (x : Cause) → cause_refused x ≡ why'.ReadFault → line ≡ cause_line x → IsCauseOver told rose c bytes x
+      → Stops command x → (TellsProject told command → Comes told rose x) → IsReadLine command line
+  cause-read command c bytes line (of_run r (error.NoProgram n)) w is i asks comes = absurd (cc)
+  cause-read command c bytes line (of_run r error.RetainedRead) w is i asks comes = retained-read command r line i.1.comes.0.laid.leaves r.retain refl is i.1.comes.1 asks comes
+  cause-read command c bytes line (of_run r (error.Line n)) w is i asks comes = absurd (cc)
+  cause-read command c bytes line (of_run r error.EventsRead) w is i asks comes =
+      record { name = r.events; reached = later (of_run r error.EventsRead) asks refl comes; rises = i.1.comes.1; line_is = is }
+  cause-read command c bytes line (of_run r (error.Row n)) w is i asks comes = absurd (cc)
+  cause-read command c bytes line (of_run r error.NoMemory) w is i asks comes = absurd (cc)
+  cause-read command c bytes line (of_migration form m (OldProgram n)) w is i asks comes = absurd (cc)
+  cause-read command c bytes line (of_migration form m NewRead) w is i asks comes =
+      record { name = m.new; reached = later (of_migration form m NewRead) asks refl comes; rises = i.1.1; line_is = is }
+  cause-read command c bytes line (of_migration form m (NewBroken b)) w is i asks comes = absurd (cc)
+  cause-read command c bytes line (of_migration form m (NewProgram n)) w is i asks comes = absurd (cc)
+  cause-read command c bytes line (of_migration form m RetainedRead) w is i asks comes =
+      record { name = m.retain; reached = later (of_migration form m RetainedRead) asks refl comes; rises = i.1.1; line_is = is }
+  cause-read command c bytes line (of_migration form m (Line n)) w is i asks comes = absurd (cc)
 
   read-found : (command : Option Command) (a : Answer) (line : List ℕ) → a ≡ refusal why'.ReadFault line → Found told rose command a → IsReadLine command line
   read-found command a line is (faulty n e) = absurd (cc)
@@ -332,10 +304,10 @@ module _ (one_verdict : (bytes : List ℕ) (v w : Verdict) → FileVerdict bytes
   read-found command a line is (breaks b name p v e) = absurd (cc)
   read-found command a line is (accepts c n name p f) = elim (kind told rose c f.bytes a f.follows) [
     | gives text e ↦ absurd (cc)
-    | refuses r s x i e ↦
-        let same : refused_as x ≡ why'.ReadFault = cc in
-        let text : line ≡ error_line r x = cc in
-        run-line command r f.bytes line x same text i (n ∙ ap Some s) (run-read r command c n s name p a f x i)
+    | refuses x i e ↦
+        let same : cause_refused x ≡ why'.ReadFault = cc in
+        let text : line ≡ cause_line x = cc in
+        cause-read command c f.bytes line x same text i (cause-stops command c n rose f.bytes x i) (cause-comes rose command c n name p a f x i)
   ]
 
   pub blames_reads : (command : Option Command) (s : Status) (out err : Change) → Ends told rose Became command s out err → BlamesReads told rose command s out err
@@ -356,6 +328,21 @@ module _ (one_verdict : (bytes : List ℕ) (v w : Verdict) → FileVerdict bytes
   pub blames_writes : (command : Option Command) (s : Status) (out err : Change) → Ends told rose Became command s out err → BlamesWrites told rose Became command s out err
   blames_writes command s out err ends e = (ends.answer, ends.said, ends.heard, written-fault ends.answer s out err e ends.written)
 
+  -- a cause is none of memory
+  no_memory : (c : Command) (bytes : List ℕ) (x : Cause) → cause_refused x ≡ why'.NoMemory → IsCauseOver told rose c bytes x → ⊥
+  no_memory c bytes (of_run r (error.NoProgram n)) w i = cc
+  no_memory c bytes (of_run r error.RetainedRead) w i = cc
+  no_memory c bytes (of_run r (error.Line n)) w i = cc
+  no_memory c bytes (of_run r error.EventsRead) w i = cc
+  no_memory c bytes (of_run r (error.Row n)) w i = cc
+  no_memory c bytes (of_run r error.NoMemory) w i = i.1.there refl
+  no_memory c bytes (of_migration form m (OldProgram n)) w i = cc
+  no_memory c bytes (of_migration form m NewRead) w i = cc
+  no_memory c bytes (of_migration form m (NewBroken b)) w i = cc
+  no_memory c bytes (of_migration form m (NewProgram n)) w i = cc
+  no_memory c bytes (of_migration form m RetainedRead) w i = cc
+  no_memory c bytes (of_migration form m (Line n)) w i = cc
+
   -- want of memory is told by its own line
   memory-found : (command : Option Command) (a : Answer) (line : List ℕ) → a ≡ refusal why'.NoMemory line → Found told rose command a → ⊥
   memory-found command a line is (faulty n e) = cc
@@ -364,7 +351,7 @@ module _ (one_verdict : (bytes : List ℕ) (v w : Verdict) → FileVerdict bytes
   memory-found command a line is (breaks b name p v e) = cc
   memory-found command a line is (accepts c n name p f) = elim (kind told rose c f.bytes a f.follows) [
     | gives text e ↦ cc
-    | refuses r s x i e ↦ let same : refused_as x ≡ why'.NoMemory = cc in i.there (ap Err (only_memory x same))
+    | refuses x i e ↦ let same : cause_refused x ≡ why'.NoMemory = cc in no_memory c f.bytes x same i
   ]
 
   memory-line : (command : Option Command) (a : Answer) (line : List ℕ) → a ≡ refusal why'.NoMemory line → MaySay told rose command a → line ≡ memory_line

@@ -4,5 +4,8 @@ pub mod Composed
 pub mod Statuses
 pub mod Found
 pub mod Laws
+pub mod Migrations
 pub mod Simulations
+pub mod Causes
 pub mod Takes
+pub mod Carried

@@ -17,7 +17,7 @@ use Rattle.plcx_command.specs.Answer.{Answer, output, refusal, memory_answer}
 use Rattle.plcx_command.specs.Compiled.{HasDiagrams}
 use Rattle.plcx_command.specs.Ends.{Ends, Change, Written, Gets, Unchanged, MaySay}
 use Rattle.plcx_command.specs.Says.{file_of}
-use Rattle.plcx_command.specs.Headline.{IsDefined, is_to_come, project_file, Reads, Never, IsTold, TellsProject, TellsAll, IsFine, IsRefused, SimulatesExactly, RefusesRun, IsComplete}
+use Rattle.plcx_command.specs.Headline.{IsDefined, project_file, Reads, Never, IsTold, TellsAll, SimulatesExactly}
 use Rattle.plcx_command.specs.Refused.{status_of}
 use Rattle.plcx_command.specs.Simulated.{IsSimulated, Simulates, AnswersRun, refused_as, error_line, answer_to}
 use Rattle.plcx_command.specs.Verdict as verdict
@@ -34,12 +34,6 @@ use Rattle.plcx_command.proofs.Laws.{IsAnswered, answered, found-refusal, accept
 traced-outcome : (r : Run) (x : Result (List ℕ) RunError) (text : List ℕ) → output text ≡ answer_to r x → x ≡ Ok text
 traced-outcome r (Ok t) text e = let same : text ≡ t = cc in ap Ok (sym same)
 traced-outcome r (Err f) text e = absurd (cc)
-
--- and a refusal to one alone that is refused so
-refused-outcome : (r : Run) (x : Result (List ℕ) RunError) (why : Refused) (line : List ℕ) → refusal why line ≡ answer_to r x
-    → (e : RunError) × (x ≡ Err e) × (refused_as e ≡ why) × (line ≡ error_line r e)
-refused-outcome r (Ok t) why line e = absurd (cc)
-refused-outcome r (Err f) why line e = let same : why ≡ refused_as f = cc in (f, refl, sym same, cc)
 
 module _ (one_verdict : (bytes : List ℕ) (v w : Verdict) → FileVerdict bytes v → FileVerdict bytes w → v ≡ w)
     (one_list : (bytes : List ℕ) (a b : Project) → HasDiagrams bytes a → HasDiagrams bytes b → a ≡ b)
@@ -61,13 +55,13 @@ module _ (one_verdict : (bytes : List ℕ) (v w : Verdict) → FileVerdict bytes
   told-run r all = record { retained = λ name is. all name (inr (inl is)); events = all r.events (inr (inr refl)) }
 
   -- where all files are told, a simulation comes to one thing
-  one_simulated : (r : Run) → TellsAll told (Some (simulate r)) → (x y : Result (List ℕ) RunError) → Simulates told Never r x → Simulates told Never r y → x ≡ y
+  pub one_simulated : (r : Run) → TellsAll told (Some (simulate r)) → (x y : Result (List ℕ) RunError) → Simulates told Never r x → Simulates told Never r y → x ≡ y
   one_simulated r all x y h k =
       one_outcome k.simulated.diagrams told r (told-run r all) x y h.simulated.there k.simulated.there
       (subst (λ (ds : Project). ComesTo told Never (programs_of ds) r x) (simulates-diagrams r x y h k) h.simulated.comes) k.simulated.comes
 
   -- and where the program is missing, no matter what is told of the others
-  missing_alone : (r : Run) (n : ℕ) (x : Result (List ℕ) RunError) → Simulates told Never r x → Simulates told Never r (Err (error.NoProgram n)) → (m : ℕ) × (x ≡ Err (error.NoProgram m))
+  pub missing_alone : (r : Run) (n : ℕ) (x : Result (List ℕ) RunError) → Simulates told Never r x → Simulates told Never r (Err (error.NoProgram n)) → (m : ℕ) × (x ≡ Err (error.NoProgram m))
   missing_alone r n x h k =
       missing k.simulated.diagrams told r x h.simulated.there (subst (λ (ds : Project). ComesTo told Never (programs_of ds) r x) (simulates-diagrams r x (Err (error.NoProgram n)) h k) h.simulated.comes) k.simulated.comes.1
 
@@ -77,7 +71,7 @@ module _ (one_verdict : (bytes : List ℕ) (v w : Verdict) → FileVerdict bytes
   calm-begun None leaves line h = h
   calm-begun (Some name) leaves line h = h
 
-  calm : (project : Project) (r : Run) (x : Result (List ℕ) RunError) → IsDefined (status_for (answer_to r x)) → ComesTo told rose (programs_of project) r x
+  pub calm : (project : Project) (r : Run) (x : Result (List ℕ) RunError) → IsDefined (status_for (answer_to r x)) → ComesTo told rose (programs_of project) r x
       → ComesTo told Never (programs_of project) r x
   calm project r (Ok text) d h = h
   calm project r (Err (error.NoProgram n)) d h = h
@@ -100,10 +94,10 @@ module _ (one_verdict : (bytes : List ℕ) (v w : Verdict) → FileVerdict bytes
   simulate-answers r (cover q) bytes a is f = absurd (cc)
 
   -- what a simulation whose status is defined comes to
-  record IsOutcome (r : Run) (a : Answer) : Type 0 where
-    outcome : Result (List ℕ) RunError
-    simulates : Simulates told Never r outcome
-    answer : a ≡ answer_to r outcome
+  pub record IsOutcome (r : Run) (a : Answer) : Type 0 where
+    pub outcome : Result (List ℕ) RunError
+    pub simulates : Simulates told Never r outcome
+    pub answer : a ≡ answer_to r outcome
 
   outcome-of : (r : Run) (c : Command) (bytes : List ℕ) (a : Answer) → simulate r ≡ c → told r.file ≡ Some bytes → IsDefined (status_for a) → IsFollowed told rose c r.file a → IsOutcome r a
   outcome-of r c bytes a is k d f =
@@ -126,7 +120,7 @@ module _ (one_verdict : (bytes : List ℕ) (v w : Verdict) → FileVerdict bytes
       }
 
   -- a simulation that comes to something has a file that is accepted
-  simulates-accepted : (r : Run) (x : Result (List ℕ) RunError) (bytes : List ℕ) → told r.file ≡ Some bytes → Simulates told Never r x → FileVerdict bytes verdict.Accepted
+  pub simulates-accepted : (r : Run) (x : Result (List ℕ) RunError) (bytes : List ℕ) → told r.file ≡ Some bytes → Simulates told Never r x → FileVerdict bytes verdict.Accepted
   simulates-accepted r x bytes k h =
       let both : Some h.bytes ≡ Some bytes = sym h.tells ∙ k in
       let same : h.bytes ≡ bytes = cc in
@@ -142,7 +136,7 @@ module _ (one_verdict : (bytes : List ℕ) (v w : Verdict) → FileVerdict bytes
 
   -- ---- the clauses
 
-  project_told : (r : Run) (command : Option Command) → command ≡ Some (simulate r) → TellsAll told command → IsTold told r.file
+  pub project_told : (r : Run) (command : Option Command) → command ≡ Some (simulate r) → TellsAll told command → IsTold told r.file
   project_told r command is all = subst (λ (c : Option Command). TellsAll told c) is all r.file (inl refl)
 
   by-run : (r : Run) (command : Option Command) (a : Answer) (s : Status) → command ≡ Some (simulate r) → (file : IsTold told r.file) → IsDefined s
@@ -192,104 +186,11 @@ module _ (one_verdict : (bytes : List ℕ) (v w : Verdict) → FileVerdict bytes
     (λ e. let t = done-trace r command s out err ends is (project_told r command is all) d e in (t.text, t.simulates, t.gets, t.quiet)),
   )
 
-  -- a refusal of a run
-  record IsRefusal (why : Refused) (command : Option Command) (line : List ℕ) : Type 0 where
-    run : Run
-    asks : command ≡ Some (simulate run)
-    bytes : List ℕ
-    error : RunError
-    why_is : refused_as error ≡ why
-    line_is : line ≡ error_line run error
-    comes : IsTold told run.file → IsRefused told Never command error
+  -- ---- a run that comes to a cause was answered to that of it
 
-  run-refusal : (why : Refused) → IsDefined (status_of why) → (command : Option Command) (a : Answer) (line : List ℕ) → a ≡ refusal why line → why ≢ why'.Usage
-      → why ≢ why'.NotBuilt → why ≢ why'.Broken → Found told rose command a
-      → IsRefusal why command line
-  run-refusal why d command a line is u n b (faulty m e) = absurd (u (cc))
-  run-refusal why d command a line is u n b (unbuilt t e) = absurd (n (cc))
-  run-refusal why d command a line is u n b (unread name p r e) = let same : why ≡ why'.ReadFault = cc in absurd (subst (λ y. IsDefined (status_of y)) same d)
-  run-refusal why d command a line is u n b (breaks x name p v e) = absurd (b (cc))
-  run-refusal why d command a line is u n b (accepts c m name p f) = elim (kind told rose c f.bytes a f.follows) [
-    | gives text e ↦ absurd (cc)
-    | refuses r s x i e ↦
-        let why_is : refused_as x ≡ why = cc in
-        let text : line ≡ error_line r x = cc in
-        let asks : command ≡ Some (simulate r) = m ∙ ap Some s in
-        let file : name ≡ r.file = let q : Some name ≡ Some r.file = sym p ∙ ap project_file asks in cc in
-        record {
-          run = r;
-          asks = asks;
-          bytes = f.bytes;
-          error = x;
-          why_is = why_is;
-          line_is = text;
-          comes = λ k. record {
-            run = r;
-            asks = asks;
-            simulates = record {
-              bytes = f.bytes;
-              tells = k.1 ∙ ap Some (sym (tells-same (told r.file) f.bytes k.0 k.1 (subst (λ (z : List ℕ). Tells (told z) f.bytes) file f.tells)));
-              short = f.short;
-              simulated = record {
-                diagrams = i.diagrams;
-                has = i.has;
-                comes = calm i.diagrams r (Err x) (subst (λ y. IsDefined (status_of y)) (sym why_is) d) i.comes;
-                there = i.there;
-              };
-            };
-          };
-        }
-  ]
-
-  -- where such a cause stands, any other outcome is refused in the same way
-  abbrev Settles : Refused → Type 0 → Option Command → Type 0
-  Settles why Tells command = Tells → (r : Run) → command ≡ Some (simulate r) → (e : RunError) → refused_as e ≡ why → Simulates told Never r (Err e) → (x : Result (List ℕ) RunError) → Simulates told Never r x
-      → status_for (answer_to r x) ≡ status_of why
-
-  pub program_settles : (command : Option Command) → Settles why'.NoProgram (TellsProject told command) command
-  program_settles command k r is (error.NoProgram n) why_is h x j = ap (λ y. status_for (answer_to r y)) (missing_alone r n x j h).1
-  program_settles command k r is error.RetainedRead why_is h x j = absurd (cc)
-  program_settles command k r is (error.Line n) why_is h x j = absurd (cc)
-  program_settles command k r is error.EventsRead why_is h x j = absurd (cc)
-  program_settles command k r is (error.Row n) why_is h x j = absurd (cc)
-  program_settles command k r is error.NoMemory why_is h x j = absurd (cc)
-
-  pub files_settle : (command : Option Command) → Settles why'.EventsBroken (TellsAll told command) command
-  files_settle command k r is e why_is h x j =
-      ap (λ y. status_for (answer_to r y)) (one_simulated r (subst (λ (c : Option Command). TellsAll told c) is k) x (Err e) j h) ∙ ap status_of why_is
-
-  pub refuses_run : (why : Refused) (Tells : Type 0) → IsDefined (status_of why) → why ≢ why'.Usage → why ≢ why'.NotBuilt → why ≢ why'.Broken → (command : Option Command)
-      → ((r : Run) → command ≡ Some (simulate r) → Tells → IsTold told r.file) → Settles why Tells command
-      → (s : Status) (out err : Change) → Ends told rose Became command s out err → RefusesRun why Tells told command s out err
-  refuses_run why Tells dw u n b command file settles s out err ends = (
-    (λ k d. (
-      (λ e. let l = line e in (l.error, l.why_is, l.comes (file l.run l.asks k))),
-      (λ h. back k d h.0 h.1 h.2),
-    )),
-    (λ e. let l = line e in (l.run, l.asks, (l.error, l.why_is, (λ k. l.comes (file l.run l.asks k)), subst (Gets err) l.line_is (of e).gets, (of e).quiet))),
-  )
-    where
-      of : s ≡ status_of why → IsRefusedBy why ends.answer out err
-      of e = refused why ends.answer s out err e ends.written
-
-      line : (e : s ≡ status_of why) → IsRefusal why command (of e).line
-      line e =
-          run-refusal why dw command ends.answer (of e).line (of e).is u n b
-          (found-refusal one_verdict told rose Became why command ends.answer (of e).line (λ x. subst (λ y. IsDefined (status_of y)) x dw) (of e).is ends.said)
-
-      back : Tells → IsDefined s → (e : RunError) → refused_as e ≡ why → IsRefused told Never command e → s ≡ status_of why
-      back k d e why_is h =
-          let answer = answered one_verdict told rose Became command s out err d ends in
-          let held = file h.run h.asks k in
-          let by = by-run h.run command ends.answer s h.asks held d answer in
-          let o = outcome-passes h.run command held.0 ends.answer s (Err e) h.asks held.1 d answer.status h.simulates by in
-          answer.status ∙ ap status_for o.answer ∙ settles k h.run h.asks e why_is h.simulates o.outcome o.simulates
-
-  pub project_tells : (command : Option Command) (r : Run) → command ≡ Some (simulate r) → TellsProject told command → IsTold told r.file
-  project_tells command r is k = k r.file (ap project_file is)
-
-  pub all_tell : (command : Option Command) (r : Run) → command ≡ Some (simulate r) → TellsAll told command → IsTold told r.file
-  all_tell command r is k = project_told r command is k
+  pub run_outcome : (r : Run) (command : Option Command) (a : Answer) (s : Status) (x : Result (List ℕ) RunError) → command ≡ Some (simulate r) → (file : IsTold told r.file) → IsDefined s
+      → IsAnswered one_verdict told rose Became command a s → Simulates told Never r x → IsOutcome r a
+  run_outcome r command a s x is file d answer h = outcome-passes r command file.0 a s x is file.1 d answer.status h (by-run r command a s is file d answer)
 
   -- ---- completeness
 
@@ -299,7 +200,7 @@ module _ (one_verdict : (bytes : List ℕ) (v w : Verdict) → FileVerdict bytes
   quiet-begun r leaves (Some name) is quiet h = quiet name (inr (inl is)) h
 
   -- a run over files whose counts did not rise did not fail
-  quiet-run : (project : Project) (r : Run) (x : Result (List ℕ) RunError) → ((name : List ℕ) → Reads (Some (simulate r)) name → rose name → ⊥)
+  pub quiet-run : (project : Project) (r : Run) (x : Result (List ℕ) RunError) → ((name : List ℕ) → Reads (Some (simulate r)) name → rose name → ⊥)
       → ComesTo told rose (programs_of project) r x → ComesTo told Never (programs_of project) r x
   quiet-run project r (Ok text) quiet h = h
   quiet-run project r (Err (error.NoProgram n)) quiet h = h
@@ -308,96 +209,3 @@ module _ (one_verdict : (bytes : List ℕ) (v w : Verdict) → FileVerdict bytes
   quiet-run project r (Err error.EventsRead) quiet h = absurd (quiet r.events (inr (inr refl)) h.1)
   quiet-run project r (Err (error.Row n)) quiet h = h
   quiet-run project r (Err error.NoMemory) quiet h = tt
-
-  fine-verdict : (command : Option Command) (name bytes : List ℕ) → IsFine told command → project_file command ≡ Some name → told name ≡ Some bytes → FileVerdict bytes verdict.Accepted
-  fine-verdict None name bytes h p k = absurd h
-  fine-verdict (Some (check n)) name bytes h p k =
-      let same : n ≡ name = cc in
-      let both : Some h.0 ≡ Some bytes = sym h.1 ∙ ap told same ∙ k in
-      let own : h.0 ≡ bytes = cc in
-      subst (λ (b : List ℕ). FileVerdict b verdict.Accepted) own h.2
-  fine-verdict (Some (compile n)) name bytes h p k =
-      let same : n ≡ name = cc in
-      let both : Some h.0 ≡ Some bytes = sym h.1 ∙ ap told same ∙ k in
-      let own : h.0 ≡ bytes = cc in
-      subst (λ (b : List ℕ). FileVerdict b verdict.Accepted) own h.2
-  fine-verdict (Some (simulate r)) name bytes h p k = let same : r.file ≡ name = cc in simulates-accepted r (Ok h.0) bytes (ap told same ∙ k) h.1
-  fine-verdict (Some (run r)) name bytes h p k = absurd h
-  fine-verdict (Some (bench n)) name bytes h p k = absurd h
-  fine-verdict (Some (cycle t)) name bytes h p k = absurd h
-  fine-verdict (Some (migrate m)) name bytes h p k = absurd h
-  fine-verdict (Some (report m)) name bytes h p k = absurd h
-  fine-verdict (Some (cover r)) name bytes h p k = absurd h
-
-  project-read : (command : Option Command) (name : List ℕ) → project_file command ≡ Some name → Reads command name
-  project-read None name p = absurd (cc)
-  project-read (Some (check n)) name p = cc
-  project-read (Some (compile n)) name p = cc
-  project-read (Some (simulate r)) name p = inl (cc)
-  project-read (Some (run r)) name p = absurd (cc)
-  project-read (Some (bench n)) name p = absurd (cc)
-  project-read (Some (cycle t)) name p = absurd (cc)
-  project-read (Some (migrate m)) name p = absurd (cc)
-  project-read (Some (report m)) name p = absurd (cc)
-  project-read (Some (cover r)) name p = absurd (cc)
-
-  -- what is fine is answered by an output
-  fine-follows : (c : Command) (name : List ℕ) (a : Answer) → file_of c ≡ Some name → IsFine told (Some c) → TellsAll told (Some c)
-      → ((x : List ℕ) → Reads (Some c) x → rose x → ⊥) → IsFollowed told rose c name a → (text : List ℕ) × (a ≡ output text)
-  fine-follows (check n) name a is h all quiet f = (_, f.follows)
-  fine-follows (compile n) name a is h all quiet f = (f.follows.text, f.follows.answer)
-  fine-follows (simulate r) name a is h all quiet f =
-      let held = all r.file (inl refl) in
-      let file : name ≡ r.file = cc in
-      let own = tells-same (told r.file) f.bytes held.0 held.1 (subst (λ (z : List ℕ). Tells (told z) f.bytes) file f.tells) in
-      let s : Simulates told Never r f.follows.outcome = record {
-        bytes = f.bytes;
-        tells = held.1 ∙ ap Some (sym own);
-        short = f.short;
-        simulated = record {
-          diagrams = f.follows.simulated.diagrams;
-          has = f.follows.simulated.has;
-          comes = quiet-run f.follows.simulated.diagrams r f.follows.outcome quiet f.follows.simulated.comes;
-          there = f.follows.simulated.there;
-        };
-      } in
-      (h.0, f.follows.answer ∙ ap (answer_to r) (one_simulated r all f.follows.outcome (Ok h.0) s h.1))
-  fine-follows (run r) name a is h all quiet f = absurd h
-  fine-follows (bench n) name a is h all quiet f = absurd h
-  fine-follows (cycle t) name a is h all quiet f = absurd h
-  fine-follows (migrate m) name a is h all quiet f = absurd h
-  fine-follows (report m) name a is h all quiet f = absurd h
-  fine-follows (cover r) name a is h all quiet f = absurd h
-
-  fine-output : (command : Option Command) (a : Answer) → IsFine told command → TellsAll told command → ((x : List ℕ) → Reads command x → rose x → ⊥)
-      → Found told rose command a → (text : List ℕ) × (a ≡ output text)
-  fine-output command a h all quiet (faulty n e) = absurd (subst (IsFine told) n h)
-  fine-output command a h all quiet (unbuilt t e) = absurd (not_to_come command t h)
-    where
-      not_to_come : (c : Option Command) → is_to_come c ≡ true → IsFine told c → ⊥
-      not_to_come None t h = cc
-      not_to_come (Some (check n)) t h = cc
-      not_to_come (Some (compile n)) t h = cc
-      not_to_come (Some (simulate r)) t h = cc
-      not_to_come (Some (run r)) t h = h
-      not_to_come (Some (bench n)) t h = h
-      not_to_come (Some (cycle t)) t h = h
-      not_to_come (Some (migrate m)) t h = h
-      not_to_come (Some (report m)) t h = h
-      not_to_come (Some (cover r)) t h = h
-  fine-output command a h all quiet (unread name p r e) = absurd (quiet name (project-read command name p) r)
-  fine-output command a h all quiet (breaks b name p v e) =
-      let held = all name (project-read command name p) in
-      let both : verdict.Accepted ≡ verdict.Broken b = one_verdict held.0 verdict.Accepted (verdict.Broken b) (fine-verdict command name held.0 h p held.1) (v held.0 held.1) in
-      absurd (cc)
-  fine-output command a h all quiet (accepts c n name p f) =
-      fine-follows c name a (sym (ap project_file n) ∙ p) (subst (IsFine told) n h) (subst (λ (x : Option Command). TellsAll told x) n all)
-      (subst (λ (x : Option Command). (y : List ℕ) → Reads x y → rose y → ⊥) n quiet) f
-
-  pub is_complete : (command : Option Command) (s : Status) (out err : Change) → Ends told rose Became command s out err → IsComplete told rose command s out err
-  is_complete command s out err ends h all quiet no_out no_err = elim ends.said [
-    | inl says ↦
-        let o = fine-output command ends.answer h all quiet (found told rose command ends.answer says) in
-        inl (output-whole o.0 s out err no_out (subst (λ (x : Answer). Written x s out err) o.1 ends.written))
-    | inr m ↦ inr (memory-whole s out err no_err (subst (λ (x : Answer). Written x s out err) m ends.written))
-  ]

@@ -27,31 +27,38 @@ use Rattle.plcx_command.specs.Taken.{IsTaken, IsAccepted, IsTakenFrom}
 use Rattle.plcx_command.specs.Verdict as verdict
 use Rattle.plcx_command.specs.Verdict.{Verdict, Refused, Passed}
 use Rattle.plcx_command.specs.declared.reply.Reply.{Reply}
-use Rattle.plcx_command.specs.declared.deciding.Taken as taken
-use Rattle.plcx_command.specs.declared.deciding.Taken.TheVariants as taken'
+use Rattle.plcx_command.specs.declared.line.ProjectFile.{ProjectFile}
+use Rattle.plcx_command.specs.declared.taking.Taken as taken
+use Rattle.plcx_command.specs.declared.taking.Taken.TheVariants as taken'
 
 -- the verdict on the bytes of a file is that on the file
-pub taken_whole : (told : Option (List ℕ)) (rose : Type 0) (name bytes : List ℕ) → length bytes ≤ max_file_bytes → Tells told bytes → (t : taken.Taken)
-    → IsTaken bytes t → IsTakenFrom told rose name t
-taken_whole told rose name bytes short tells (taken'.Accepted c) h = record { bytes = bytes; short = short; tells = tells; keeps = h.0; checked = h.1 }
-taken_whole told rose name bytes short tells (taken'.Refused reply) h = whole bytes short tells (record { verdict = verdict.Broken h.0; judged = Refused h.1; answers = h.2 })
+pub taken_whole : (file : ProjectFile) (told : Option (List ℕ)) (rose : Type 0) (name bytes : List ℕ) → length bytes ≤ max_file_bytes → Tells told bytes → (t : taken.Taken)
+    → IsTaken file bytes t → IsTakenFrom file told rose name t
+taken_whole file told rose name bytes short tells (taken'.Accepted c) h = record { bytes = bytes; short = short; tells = tells; keeps = h.0; checked = h.1 }
+taken_whole file told rose name bytes short tells (taken'.Refused reply) h = whole bytes short tells (record { verdict = verdict.Broken h.0; judged = Refused h.1; answers = h.2 })
+
+-- what follows on a file that is accepted may be known by less
+module _ (file : ProjectFile) (next more : List ℕ → Answer → Type 0) (w : (bytes : List ℕ) (a : Answer) → next bytes a → more bytes a) where
+  answers_less : (bytes : List ℕ) (v : Verdict) (a : Answer) → Answers file (next bytes) v a → Answers file (more bytes) v a
+  answers_less bytes verdict.Accepted a h = w bytes a h
+  answers_less bytes (verdict.Broken b) a h = h
+
+  pub after_less : (told : Option (List ℕ)) (rose : Type 0) (name : List ℕ) (long : Answer) (a : Answer)
+      → AfterRead told rose name long (λ bytes. Judged file bytes (next bytes)) a → AfterRead told rose name long (λ bytes. Judged file bytes (more bytes)) a
+  after_less told rose name long a (fault r e) = fault r e
+  after_less told rose name long a (too_long l e) = too_long l e
+  after_less told rose name long a (whole bytes short tells j) = whole bytes short tells (record { verdict = j.verdict; judged = j.judged; answers = answers_less bytes j.verdict a j.answers })
 
 -- a file that is refused is refused whatever would follow
-refused_alone : (next : Answer → Type 0) (v : Verdict) (a : Answer) → Answers (λ _. ⊥) v a → Answers next v a
-refused_alone next verdict.Accepted a h = absurd h
-refused_alone next (verdict.Broken b) a h = h
-
-pub refused_over : (told : Option (List ℕ)) (rose : Type 0) (name : List ℕ) (next : List ℕ → Answer → Type 0) (a : Answer)
-    → AfterRead told rose name long_answer (λ bytes. Judged bytes (λ _. ⊥)) a
-    → AfterRead told rose name long_answer (λ bytes. Judged bytes (next bytes)) a
-refused_over told rose name next a (fault r e) = fault r e
-refused_over told rose name next a (too_long l e) = too_long l e
-refused_over told rose name next a (whole bytes short tells j) = whole bytes short tells (record { verdict = j.verdict; judged = j.judged; answers = refused_alone (next bytes) j.verdict a j.answers })
+pub refused_over : (file : ProjectFile) (told : Option (List ℕ)) (rose : Type 0) (name : List ℕ) (next : List ℕ → Answer → Type 0) (a : Answer)
+    → AfterRead told rose name (long_answer file) (λ bytes. Judged file bytes (λ _. ⊥)) a
+    → AfterRead told rose name (long_answer file) (λ bytes. Judged file bytes (next bytes)) a
+refused_over file told rose name next a h = after_less file (λ _ _. ⊥) next (λ bytes b f. absurd f) told rose name (long_answer file) a h
 
 -- and on one that is accepted something follows
-pub accepted_over : (told : Option (List ℕ)) (rose : Type 0) (name : List ℕ) (next : List ℕ → Answer → Type 0) (c : Checked) (a : Answer) (file : IsAccepted told c) → next file.bytes a
-    → AfterRead told rose name long_answer (λ bytes. Judged bytes (next bytes)) a
-accepted_over told rose name next c a file n = whole file.bytes file.short file.tells (record { verdict = verdict.Accepted; judged = Passed c.project file.keeps; answers = n })
+pub accepted_over : (file : ProjectFile) (told : Option (List ℕ)) (rose : Type 0) (name : List ℕ) (next : List ℕ → Answer → Type 0) (c : Checked) (a : Answer) (is : IsAccepted told c) → next is.bytes a
+    → AfterRead told rose name (long_answer file) (λ bytes. Judged file bytes (next bytes)) a
+accepted_over file told rose name next c a is n = whole is.bytes is.short is.tells (record { verdict = verdict.Accepted; judged = Passed c.project is.keeps; answers = n })
 
 -- the diagrams of a file that is accepted
 pub diagrams_there : (told : Option (List ℕ)) (c : Checked) (file : IsAccepted told c) → HasDiagrams file.bytes (diagrams_in c)

@@ -4,8 +4,10 @@ use Rattle.std.specs.Fmt.{decimal}
 use Rattle.plcx_model.specs.declared.broken.Broken as model
 use Rattle.plcx_model.specs.declared.broken.Place.{Place}
 use Rattle.plcx_model.specs.declared.broken.Place.TheVariants.{Byte, Element}
+use Rattle.plcx_command.specs.declared.line.ProjectFile.{ProjectFile}
+use Rattle.plcx_command.specs.declared.line.ProjectFile.TheVariants.{First, New}
 use Rattle.plcx_command.specs.declared.status.Refused.{Refused}
-use Rattle.plcx_command.specs.declared.status.Refused.TheVariants.{Broken, Usage, ReadFault, NoMemory, NotBuilt}
+use Rattle.plcx_command.specs.declared.status.Refused.TheVariants.{Broken, Usage, ReadFault, NoMemory, NoProgram, NotBuilt}
 
 pub data Answer : Type 0 where
   output : List ℕ → Answer
@@ -53,16 +55,27 @@ abbrev pub place_words : Place → List ℕ
 place_words (Byte at) = codes "byte " ++ decimal at
 place_words (Element pou local_id) = pou ++ (codes " " ++ decimal local_id)
 
-abbrev pub broken_line : model.Broken → List ℕ
-broken_line b = line (codes "rule " ++ (decimal b.rule.0 ++ (codes " at " ++ place_words b.place)))
+-- what the words about a project file have in front
+abbrev pub front : ProjectFile → List ℕ
+front First = []
+front New = codes "new file: "
 
-abbrev pub broken_answer : model.Broken → Answer
-broken_answer b = refusal Broken (broken_line b)
+abbrev pub broken_line : ProjectFile → model.Broken → List ℕ
+broken_line file b = line (front file ++ (codes "rule " ++ (decimal b.rule.0 ++ (codes " at " ++ place_words b.place))))
+
+abbrev pub broken_answer : ProjectFile → model.Broken → Answer
+broken_answer file b = refusal Broken (broken_line file b)
 
 -- where a program isn't there: its name, or how many there are where none is named
-abbrev pub program_line : Option (List ℕ) → ℕ → List ℕ
-program_line (Some name) programs = line (codes "no program " ++ name)
-program_line None programs = line (decimal programs ++ codes " programs, name one")
+abbrev pub program_words : Option (List ℕ) → ℕ → List ℕ
+program_words (Some name) programs = codes "no program " ++ name
+program_words None programs = decimal programs ++ codes " programs, name one"
+
+abbrev pub program_line : ProjectFile → Option (List ℕ) → ℕ → List ℕ
+program_line file program programs = line (front file ++ program_words program programs)
+
+abbrev pub program_answer : ProjectFile → Option (List ℕ) → ℕ → Answer
+program_answer file program programs = refusal NoProgram (program_line file program programs)
 
 -- where retained lines, or the rows of events, are wrong
 abbrev pub retained_line : ℕ → List ℕ

@@ -6,16 +6,22 @@ use Rattle.plcx_meaning.specs.Evaluate.{Heard}
 use Rattle.plcx_traced.specs.declared.error.RunError.{RunError}
 use Rattle.plcx_traced.specs.declared.error.RunError.TheVariants as error
 use Rattle.plcx_command.specs.Answer.{ok_line, read_line, broken_line, usage_line, memory_line, not_built_line, write_line, Answer, refusal, output}
-use Rattle.plcx_words.specs.Command.{Command, Run, check, compile, simulate, run, bench, cycle, migrate, report, cover}
+use Rattle.plcx_words.specs.Command.{Command, Run, Migration, check, compile, simulate, run, bench, cycle, migrate, report, cover}
 use Rattle.plcx_model.specs.declared.broken.Broken as model
+use Rattle.plcx_migrate.specs.declared.migrating.Form.{Form}
+use Rattle.plcx_migrate.specs.declared.migrating.Form.TheVariants.{Lines, Report}
+use Rattle.plcx_command.specs.Causes.{Cause, of_run, of_migration, Stops, Comes, cause_refused, cause_line}
 use Rattle.plcx_command.specs.Compiled.{IsCompiled}
 use Rattle.plcx_command.specs.Hears.{Hears, IsHeard, IsHeardInPart}
 use Rattle.plcx_command.specs.Says.{file_of}
-use Rattle.plcx_command.specs.Simulated.{Simulates, refused_as, error_line}
+use Rattle.plcx_command.specs.Migrated.{Migrates, action_of, OldProgram, NewRead, NewBroken, NewProgram, RetainedRead, Line}
+use Rattle.plcx_command.specs.Simulated.{Simulates}
 use Rattle.plcx_command.specs.Verdict.{FileVerdict}
 use Rattle.plcx_command.specs.Verdict as verdict
 use Rattle.plcx_command.specs.Ends.{Change, Gets, GetsFront, Unchanged, MaySay}
 use Rattle.plcx_command.specs.Refused.{status_of}
+use Rattle.plcx_command.specs.declared.line.ProjectFile.{ProjectFile}
+use Rattle.plcx_command.specs.declared.line.ProjectFile.TheVariants.{First, New}
 use Rattle.plcx_command.specs.declared.status.Refused.{Refused}
 use Rattle.plcx_command.specs.declared.status.Status.{Status}
 use Rattle.plcx_command.specs.declared.status.Status.TheVariants.{Done, Broken, Usage, ReadFault, WriteFault, NoMemory, EventsBroken, NoProgram, NotBuilt}
@@ -32,9 +38,13 @@ IsDefined ReadFault = ⊥
 IsDefined WriteFault = ⊥
 IsDefined NoMemory = ⊥
 
--- the project file that a command reads
+-- the project file that a command reads first
 abbrev pub project_file : Option Command → Option (List ℕ)
 project_file command = option_and_then file_of command
+
+-- a project file that a command reads: the one that is read first, or the new one of a migration
+abbrev pub IsProjectFile : Option Command → List ℕ → Type 0
+IsProjectFile command name = (project_file command ≡ Some name) ⊎ ((form : Form) × (m : Migration) × (command ≡ Some (action_of form m)) × (m.new ≡ name))
 
 -- the files that a command reads
 abbrev pub Reads : Option Command → List ℕ → Type 0
@@ -45,17 +55,17 @@ Reads (Some (simulate r)) file = (file ≡ r.file) ⊎ ((r.retain ≡ Some file)
 Reads (Some (run r)) file = ⊥
 Reads (Some (bench n)) file = ⊥
 Reads (Some (cycle t)) file = ⊥
-Reads (Some (migrate m)) file = ⊥
-Reads (Some (report m)) file = ⊥
+Reads (Some (migrate m)) file = (file ≡ m.old) ⊎ ((file ≡ m.new) ⊎ (file ≡ m.retain))
+Reads (Some (report m)) file = (file ≡ m.old) ⊎ ((file ≡ m.new) ⊎ (file ≡ m.retain))
 Reads (Some (cover r)) file = ⊥
 
 -- the desk tells a file
 abbrev pub IsTold : (List ℕ → Option (List ℕ)) → List ℕ → Type 0
 IsTold told name = (bytes : List ℕ) × (told name ≡ Some bytes)
 
--- it tells the project file that the command reads, if it reads one
+-- it tells the project files that the command reads
 abbrev pub TellsProject : (List ℕ → Option (List ℕ)) → Option Command → Type 0
-TellsProject told command = (name : List ℕ) → project_file command ≡ Some name → IsTold told name
+TellsProject told command = (name : List ℕ) → IsProjectFile command name → IsTold told name
 
 -- it tells all files that the command reads
 abbrev pub TellsAll : (List ℕ → Option (List ℕ)) → Option Command → Type 0
@@ -81,6 +91,12 @@ abbrev pub SimulatesExactly : (List ℕ → Option (List ℕ)) → Option Comman
 SimulatesExactly told command status out err = (r : Run) → command ≡ Some (simulate r) → TellsAll told command → IsDefined status
     → ((status ≡ Done) ↔ ((text : List ℕ) × Simulates told Never r (Ok text))) × (status ≡ Done → (text : List ℕ) × Simulates told Never r (Ok text) × Gets out text × Unchanged err)
 
+-- The lines or the report of a migration come exactly where both project files are accepted, both have the program, and the retained file is right for the
+-- old one; then they are exactly what the output got, and they are those of what becomes of each value.
+abbrev pub MigratesExactly : (List ℕ → Option (List ℕ)) → Option Command → Status → Change → Change → Type 0
+MigratesExactly told command status out err = (form : Form) (m : Migration) → command ≡ Some (action_of form m) → TellsAll told command → IsDefined status
+    → ((status ≡ Done) ↔ ((text : List ℕ) × Migrates told Never form m (Ok text))) × (status ≡ Done → (text : List ℕ) × Migrates told Never form m (Ok text) × Gets out text × Unchanged err)
+
 -- the words are no command
 abbrev pub RefusesUsage : Option Command → Status → Change → Change → Type 0
 RefusesUsage command status out err = (IsDefined status → ((status ≡ Usage) ↔ (command ≡ None))) × (status ≡ Usage → Gets err usage_line × Unchanged out)
@@ -93,24 +109,23 @@ pub record IsJudged (told : List ℕ → Option (List ℕ)) (command : Option Co
   pub tells : told name ≡ Some bytes
   pub judged : FileVerdict bytes v
 
--- A broken rule is told exactly where the verdict on the file gives it, with its place.
+-- A rule that a project file breaks first: the file that is read first; or the new one of a migration, where the old one is accepted and has the program.
+abbrev pub IsBroken : (List ℕ → Option (List ℕ)) → Option Command → ProjectFile → model.Broken → Type 0
+IsBroken told command First b = IsJudged told command (verdict.Broken b)
+IsBroken told command New b = (form : Form) × (m : Migration) × (command ≡ Some (action_of form m)) × Migrates told Never form m (Err (NewBroken b))
+
+-- A broken rule is told exactly where the verdict on a project file gives it, with its place, and whether that is the new file.
 abbrev pub RefusesBroken : (List ℕ → Option (List ℕ)) → Option Command → Status → Change → Change → Type 0
 RefusesBroken told command status out err =
-    (TellsProject told command → IsDefined status → ((status ≡ Broken) ↔ ((b : model.Broken) × IsJudged told command (verdict.Broken b))))
-    × (status ≡ Broken → (b : model.Broken) × (TellsProject told command → IsJudged told command (verdict.Broken b)) × Gets err (broken_line b) × Unchanged out)
+    (TellsProject told command → IsDefined status → ((status ≡ Broken) ↔ ((file : ProjectFile) × (b : model.Broken) × IsBroken told command file b)))
+    × (status ≡ Broken → (file : ProjectFile) × (b : model.Broken) × (TellsProject told command → IsBroken told command file b) × Gets err (broken_line file b) × Unchanged out)
 
--- a run that the command asks for comes to no trace for this cause
-pub record IsRefused (told : List ℕ → Option (List ℕ)) (rose : List ℕ → Type 0) (command : Option Command) (e : RunError) : Type 0 where
-  pub run : Run
-  pub asks : command ≡ Some (simulate run)
-  pub simulates : Simulates told rose run (Err e)
-
--- A refusal of a run comes exactly where the run comes to a cause of this kind, so far as the desk tells what is read up to there; its line is that of the cause.
-abbrev pub RefusesRun : Refused → Type 0 → (List ℕ → Option (List ℕ)) → Option Command → Status → Change → Change → Type 0
-RefusesRun why Tells told command status out err =
-    (Tells → IsDefined status → ((status ≡ status_of why) ↔ ((e : RunError) × (refused_as e ≡ why) × IsRefused told Never command e)))
-    × (status ≡ status_of why → (r : Run) × (command ≡ Some (simulate r))
-    × ((e : RunError) × (refused_as e ≡ why) × (Tells → IsRefused told Never command e) × Gets err (error_line r e) × Unchanged out))
+-- A refusal of a run or of a migration comes exactly where that comes to a cause of this kind, so far as the desk tells what is read up to there; its line is
+-- that of the cause.
+abbrev pub RefusesFor : Refused → Type 0 → (List ℕ → Option (List ℕ)) → Option Command → Status → Change → Change → Type 0
+RefusesFor why Tells told command status out err =
+    (Tells → IsDefined status → ((status ≡ status_of why) ↔ ((c : Cause) × (cause_refused c ≡ why) × Stops command c × Comes told Never c)))
+    × (status ≡ status_of why → (c : Cause) × (cause_refused c ≡ why) × Stops command c × (Tells → Comes told Never c) × Gets err (cause_line c) × Unchanged out)
 
 -- the action is not there by now
 abbrev pub is_to_come : Option Command → Bool
@@ -121,8 +136,8 @@ is_to_come (Some (simulate r)) = false
 is_to_come (Some (run r)) = true
 is_to_come (Some (bench n)) = true
 is_to_come (Some (cycle t)) = true
-is_to_come (Some (migrate m)) = true
-is_to_come (Some (report m)) = true
+is_to_come (Some (migrate m)) = false
+is_to_come (Some (report m)) = false
 is_to_come (Some (cover r)) = true
 
 -- What is not built is an action.
@@ -130,18 +145,24 @@ abbrev pub RefusesNotBuilt : Option Command → Status → Change → Change →
 RefusesNotBuilt command status out err = (IsDefined status → ((status ≡ NotBuilt) ↔ (is_to_come command ≡ true))) × (status ≡ NotBuilt → Gets err not_built_line × Unchanged out)
 
 -- the file that can't be read
-abbrev pub unread_file : Run → RunError → Option (List ℕ)
-unread_file r error.RetainedRead = r.retain
-unread_file r error.EventsRead = Some r.events
-unread_file r (error.NoProgram programs) = None
-unread_file r (error.Line n) = None
-unread_file r (error.Row n) = None
-unread_file r error.NoMemory = None
+abbrev pub unread_file : Cause → Option (List ℕ)
+unread_file (of_run r error.RetainedRead) = r.retain
+unread_file (of_run r error.EventsRead) = Some r.events
+unread_file (of_run r (error.NoProgram programs)) = None
+unread_file (of_run r (error.Line n)) = None
+unread_file (of_run r (error.Row n)) = None
+unread_file (of_run r error.NoMemory) = None
+unread_file (of_migration form m NewRead) = Some m.new
+unread_file (of_migration form m RetainedRead) = Some m.retain
+unread_file (of_migration form m (OldProgram programs)) = None
+unread_file (of_migration form m (NewBroken b)) = None
+unread_file (of_migration form m (NewProgram programs)) = None
+unread_file (of_migration form m (Line n)) = None
 
--- A file is to be read: it is the project file; or a run has come to the read of it, so that no refusal stands before.
+-- A file is to be read: it is the project file that is read first; or a run or a migration has come to the read of it, so that no refusal stands before.
 pub data IsReached (told : List ℕ → Option (List ℕ)) (rose : List ℕ → Type 0) (command : Option Command) (name : List ℕ) : Type 0 where
   first : project_file command ≡ Some name → IsReached told rose command name
-  later : (r : Run) → command ≡ Some (simulate r) → (e : RunError) → unread_file r e ≡ Some name → (TellsProject told command → Simulates told rose r (Err e)) → IsReached told rose command name
+  later : (c : Cause) → Stops command c → unread_file c ≡ Some name → (TellsProject told command → Comes told rose c) → IsReached told rose command name
 
 -- A fault of a read is that of a file which the command comes to: its count rose, and its name is told.
 abbrev pub BlamesReads : (List ℕ → Option (List ℕ)) → (List ℕ → Type 0) → Option Command → Status → Change → Change → Type 0
@@ -180,7 +201,7 @@ pub record WatchesExactly (told : List ℕ → Option (List ℕ)) (Became : List
   pub refused : IsRefusing status → Became []
   pub wanted : (r : Run) → command ≡ Some (simulate r) → status ≡ NoMemory → Became [] ⊎ IsHeardInPart told r Became
 
--- what is asked for can be done: the file is accepted, and a simulation comes to a trace
+-- what is asked for can be done: the file is accepted, a simulation comes to a trace, and a migration to what is written of it
 abbrev pub IsFine : (List ℕ → Option (List ℕ)) → Option Command → Type 0
 IsFine told None = ⊥
 IsFine told (Some (check name)) = (bytes : List ℕ) × (told name ≡ Some bytes) × FileVerdict bytes verdict.Accepted
@@ -189,8 +210,8 @@ IsFine told (Some (simulate r)) = (text : List ℕ) × Simulates told Never r (O
 IsFine told (Some (run r)) = ⊥
 IsFine told (Some (bench n)) = ⊥
 IsFine told (Some (cycle t)) = ⊥
-IsFine told (Some (migrate m)) = ⊥
-IsFine told (Some (report m)) = ⊥
+IsFine told (Some (migrate m)) = (text : List ℕ) × Migrates told Never Lines m (Ok text)
+IsFine told (Some (report m)) = (text : List ℕ) × Migrates told Never Report m (Ok text)
 IsFine told (Some (cover r)) = ⊥
 
 -- Where that is so, the desk tells all files that are read, and no count of these and of no sink rose, the output comes, unless memory is refused.

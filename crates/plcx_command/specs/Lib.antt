@@ -1,4 +1,5 @@
 pub mod Answer
+pub mod Causes
 pub mod Compiled
 pub mod Ends
 pub mod Headline
@@ -6,7 +7,9 @@ pub mod Hears
 pub mod JudgementOf
 pub mod Refused
 pub mod ReplyOf
+pub mod Migrated
 pub mod Says
 pub mod Taken
+pub mod VersionOf
 pub mod Simulated
 pub mod Verdict

@@ -1,12 +1,17 @@
 -- What each command answers, by what the desk tells of its files.
 use Rattle.std.specs.Prelude.{◌≡◌, ◌≤◌, ◌<◌, ℕ, List, Option, Some, None, length, IfSome}
 use Rattle.plcx_io.specs.Told.{Tells}
-use Rattle.plcx_words.specs.Command.{Command, check, compile, simulate, run, bench, cycle, migrate, report, cover}
+use Rattle.plcx_words.specs.Command.{Command, Migration, check, compile, simulate, run, bench, cycle, migrate, report, cover}
 use Rattle.plcx_types.specs.Limits.{max_file_bytes}
 use Rattle.plcx_command.specs.Answer.{Answer, output, ok_answer, usage_answer, not_built_answer, read_answer, broken_answer}
 use Rattle.plcx_command.specs.Compiled.{IsCompiled}
+use Rattle.plcx_command.specs.Migrated.{AnswersMigration}
 use Rattle.plcx_command.specs.Simulated.{AnswersRun}
 use Rattle.plcx_command.specs.Verdict.{Verdict, IsVerdict, Accepted, Broken, at_byte}
+use Rattle.plcx_command.specs.declared.line.ProjectFile.{ProjectFile}
+use Rattle.plcx_command.specs.declared.line.ProjectFile.TheVariants.{First}
+use Rattle.plcx_migrate.specs.declared.migrating.Form.{Form}
+use Rattle.plcx_migrate.specs.declared.migrating.Form.TheVariants.{Lines, Report}
 
 -- What the read of a file comes to: a fault of its name, a file that is too long, or its bytes and what follows on them.
 pub data AfterRead (told : Option (List ℕ)) (rose : Type 0) (name : List ℕ) (long : Answer) (next : List ℕ → Answer → Type 0) (a : Answer) : Type 0 where
@@ -15,15 +20,15 @@ pub data AfterRead (told : Option (List ℕ)) (rose : Type 0) (name : List ℕ) 
   whole : (bytes : List ℕ) → length bytes ≤ max_file_bytes → Tells told bytes → next bytes a → AfterRead told rose name long next a
 
 -- what is answered to a verdict: what follows on a file that is accepted, or its refusal
-abbrev pub Answers : (Answer → Type 0) → Verdict → Answer → Type 0
-Answers next Accepted a = next a
-Answers next (Broken b) a = a ≡ broken_answer b
+abbrev pub Answers : ProjectFile → (Answer → Type 0) → Verdict → Answer → Type 0
+Answers file next Accepted a = next a
+Answers file next (Broken b) a = a ≡ broken_answer file b
 
 -- What the verdict on bytes comes to.
-pub record Judged (bytes : List ℕ) (next : Answer → Type 0) (a : Answer) : Type 0 where
+pub record Judged (file : ProjectFile) (bytes : List ℕ) (next : Answer → Type 0) (a : Answer) : Type 0 where
   pub verdict : Verdict
   pub judged : IsVerdict bytes verdict
-  pub answers : Answers next verdict a
+  pub answers : Answers file next verdict a
 
 -- the answer is a text of the file
 pub record IsText (bytes : List ℕ) (a : Answer) : Type 0 where
@@ -32,8 +37,8 @@ pub record IsText (bytes : List ℕ) (a : Answer) : Type 0 where
   pub answer : a ≡ output text
 
 -- the answer to a file that is longer than a file may be
-abbrev pub long_answer : Answer
-long_answer = broken_answer (at_byte 7 max_file_bytes)
+abbrev pub long_answer : ProjectFile → Answer
+long_answer file = broken_answer file (at_byte 7 max_file_bytes)
 
 -- the project file of a command, which is read first and judged; none of an action that is not built
 abbrev pub file_of : Command → Option (List ℕ)
@@ -43,8 +48,8 @@ file_of (simulate r) = Some r.file
 file_of (run r) = None
 file_of (bench n) = None
 file_of (cycle t) = None
-file_of (migrate m) = None
-file_of (report m) = None
+file_of (migrate m) = Some m.old
+file_of (report m) = Some m.old
 file_of (cover r) = None
 
 -- what an action answers to bytes that break no rule
@@ -55,14 +60,18 @@ Follows told rose (simulate r) bytes a = AnswersRun told rose r bytes a
 Follows told rose (run r) bytes a = ⊥
 Follows told rose (bench n) bytes a = ⊥
 Follows told rose (cycle t) bytes a = ⊥
-Follows told rose (migrate m) bytes a = ⊥
-Follows told rose (report m) bytes a = ⊥
+Follows told rose (migrate m) bytes a = AnswersMigration told rose Lines m bytes a
+Follows told rose (report m) bytes a = AnswersMigration told rose Report m bytes a
 Follows told rose (cover r) bytes a = ⊥
 
 -- what is answered over this project file, or without one
 abbrev pub SaysOver : (List ℕ → Option (List ℕ)) → (List ℕ → Type 0) → Option (List ℕ) → Command → Answer → Type 0
-SaysOver told rose (Some name) command a = AfterRead (told name) (rose name) name long_answer (λ bytes. Judged bytes (Follows told rose command bytes)) a
+SaysOver told rose (Some name) command a = AfterRead (told name) (rose name) name (long_answer First) (λ bytes. Judged First bytes (Follows told rose command bytes)) a
 SaysOver told rose None command a = a ≡ not_built_answer
+
+-- what a migration answers: the old file is read first
+abbrev pub SaysMigration : (List ℕ → Option (List ℕ)) → (List ℕ → Type 0) → Form → Migration → Answer → Type 0
+SaysMigration told rose form m a = AfterRead (told m.old) (rose m.old) m.old (long_answer First) (λ bytes. Judged First bytes (AnswersMigration told rose form m bytes)) a
 
 -- what a command answers, where the desk tells these files and these names' counts rose
 abbrev pub SaysTo : (List ℕ → Option (List ℕ)) → (List ℕ → Type 0) → Command → Answer → Type 0

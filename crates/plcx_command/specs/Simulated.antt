@@ -9,6 +9,7 @@ use Rattle.plcx_traced.specs.declared.error.RunError.TheVariants as error
 use Rattle.plcx_simulate.specs.Programs.{programs_of}
 use Rattle.plcx_command.specs.Answer.{Answer, output, refusal, program_line, read_line, retained_line, row_line, memory_line}
 use Rattle.plcx_command.specs.Compiled.{HasDiagrams}
+use Rattle.plcx_command.specs.declared.line.ProjectFile.TheVariants.{First}
 use Rattle.plcx_command.specs.declared.status.Refused.{Refused}
 use Rattle.plcx_command.specs.declared.status.Refused.TheVariants.{ReadFault, NoMemory, EventsBroken, NoProgram}
 
@@ -23,7 +24,7 @@ refused_as error.NoMemory = NoMemory
 
 -- and the line of that
 abbrev pub error_line : Run → RunError → List ℕ
-error_line r (error.NoProgram programs) = program_line r.program programs
+error_line r (error.NoProgram programs) = program_line First r.program programs
 error_line r error.RetainedRead = read_line (unwrap_or r.retain [])
 error_line r (error.Line n) = retained_line n
 error_line r error.EventsRead = read_line r.events

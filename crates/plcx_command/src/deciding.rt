@@ -1,5 +1,5 @@
 //! What is to be written, before anything is.
-ghost use Rattle.std.specs.Prelude.{◌≡◌, ◌≤◌, ℕ, List, Some, None, IfOk, MatchResult};
+ghost use Rattle.std.specs.Prelude.{◌≡◌, Some, None, IfOk, MatchResult};
 ghost use Rattle.std.specs.List.{fold};
 ghost use Rattle.plcx_io.specs.Counts.{Rose};
 ghost use Rattle.plcx_words.specs.Command.{command_of, check, compile, simulate};
@@ -9,61 +9,29 @@ ghost use Rattle.plcx_command.specs.Hears.{Hears, HearsRun};
 ghost use Rattle.plcx_command.specs.Says.{Says, SaysTo};
 ghost use Rattle.plcx_command.specs.Simulated.{AnswersRun};
 ghost use Rattle.plcx_command.specs.ReplyOf.{answer_of};
+ghost use Rattle.plcx_command.specs.Taken.{IsAccepted};
 
-use crate::judging::{Judgement, at_byte, judge, text_of};
-use crate::replies::{accepted, broken, no_trace, not_built, read_fault, usage};
+use crate::judging::text_of;
+use crate::line::ProjectFile;
+use crate::migrating::migrate_file;
+use crate::replies::{accepted, no_trace, not_built, usage};
 use crate::reply::Reply;
+use crate::taking::{Taken, take_file};
 use plcx_check::Checked;
-use plcx_io::{Desk, LoadError, load};
+use plcx_io::Desk;
+use plcx_migrate::Form;
 use plcx_simulate::simulate;
 use plcx_steps::Watch;
 use plcx_types::NoMemory;
-use plcx_types::limits::MAX_FILE_BYTES;
 use plcx_words::{Command, Run, Words, WordsError, command_of};
 use std::alloc::Global;
-
-/// A file that was read: accepted, or refused with a reply.
-#[derive(Drop)]
-enum Taken {
-    Accepted(Checked),
-    Refused(Reply),
-}
-
-ghost use Rattle.plcx_command.specs.Taken.{IsTaken, IsTakenFrom, IsAccepted};
-
-/// The verdict on bytes, as it is answered.
-fn take(alloc: Global, bytes: &[u8]) -> Result<Taken, NoMemory>
-    ensures { IfOk result (λ taken. IsTaken bytes.now taken) }
-{
-    match judge(alloc, bytes)? {
-        Judgement::Accepted(checked) => Ok(Taken::Accepted(checked)),
-        Judgement::Broken(found) => Ok(Taken::Refused(broken(alloc, &found)?)),
-    }
-}
-
-/// Reads a file and judges it.
-fn take_file<D: Desk>(alloc: Global, desk: &mut D, name: &str) -> Result<Taken, NoMemory>
-    ensures taken { IfOk result (λ taken. IsTakenFrom (D.file desk.old name.now)
-        (Rose (D.faults desk.old name.now) (D.faults desk.new name.now)) name.now taken) }
-    ensures files { (other : List ℕ) → D.file desk.new other ≡ D.file desk.old other }
-    ensures later { (other : List ℕ) → D.faults desk.old other ≤ D.faults desk.new other }
-{
-    match load(alloc, desk, name, MAX_FILE_BYTES) {
-        Ok(bytes) => take(alloc, &bytes),
-        Err(LoadError::Read) => Ok(Taken::Refused(read_fault(alloc, name)?)),
-        Err(LoadError::TooLong { limit: _ }) => {
-            Ok(Taken::Refused(broken(alloc, &at_byte(7, MAX_FILE_BYTES))?))
-        }
-        Err(LoadError::NoMemory) => Err(NoMemory),
-    }
-}
 
 /// Reads a file, and judges it alone.
 fn check_file<D: Desk>(alloc: Global, desk: &mut D, name: &str) -> Result<Reply, NoMemory>
     ensures { IfOk result (λ reply. SaysTo (D.file desk.old)
         (λ other. Rose (D.faults desk.old other) (D.faults desk.new other)) (check name.now) (answer_of reply)) }
 {
-    match take_file(alloc, desk, name)? {
+    match take_file(alloc, desk, ProjectFile::First, name)? {
         Taken::Accepted(_) => accepted(alloc),
         Taken::Refused(reply) => Ok(reply),
     }
@@ -74,7 +42,7 @@ fn compile_file<D: Desk>(alloc: Global, desk: &mut D, name: &str) -> Result<Repl
     ensures { IfOk result (λ reply. SaysTo (D.file desk.old)
         (λ other. Rose (D.faults desk.old other) (D.faults desk.new other)) (compile name.now) (answer_of reply)) }
 {
-    match take_file(alloc, desk, name)? {
+    match take_file(alloc, desk, ProjectFile::First, name)? {
         Taken::Accepted(checked) => Ok(Reply::Output(text_of(alloc, &checked)?)),
         Taken::Refused(reply) => Ok(reply),
     }
@@ -113,7 +81,7 @@ fn simulate_file<D: Desk, W: Watch>(
         (λ reply. HearsRun (D.file desk.old) (λ heard. watch.new ≡ fold W.told watch.old heard) (said_by_run run.now) (answer_of reply))
         (λ _. HearsRun (D.file desk.old) (λ heard. watch.new ≡ fold W.told watch.old heard) (said_by_run run.now) memory_answer) }
 {
-    match take_file(alloc, desk, run.file)? {
+    match take_file(alloc, desk, ProjectFile::First, run.file)? {
         Taken::Accepted(checked) => simulated(alloc, desk, &checked, run, watch),
         Taken::Refused(reply) => Ok(reply),
     }
@@ -136,12 +104,11 @@ fn obey<D: Desk, W: Watch>(
         Command::Check(name) => check_file(alloc, desk, name),
         Command::Compile(name) => compile_file(alloc, desk, name),
         Command::Simulate(run) => simulate_file(alloc, desk, &run, watch),
-        Command::Run(_)
-        | Command::Bench(_)
-        | Command::Cycle(_)
-        | Command::Migrate(_)
-        | Command::Report(_)
-        | Command::Cover(_) => not_built(alloc),
+        Command::Migrate(migration) => migrate_file(alloc, desk, &migration, Form::Lines),
+        Command::Report(migration) => migrate_file(alloc, desk, &migration, Form::Report),
+        Command::Run(_) | Command::Bench(_) | Command::Cycle(_) | Command::Cover(_) => {
+            not_built(alloc)
+        }
     }
 }
 

@@ -9,9 +9,11 @@ mod finishing;
 mod judging;
 mod law;
 mod line;
+mod migrating;
 mod replies;
 mod reply;
 mod status;
+mod taking;
 mod top;
 
 pub use law::{one_list_of_diagrams, one_text, one_verdict};

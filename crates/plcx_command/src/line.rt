@@ -1,11 +1,28 @@
 //! The lines that tell a broken rule, a program that isn't there, and files that are refused.
 ghost use Rattle.std.specs.Prelude.{◌≡◌, ◌++◌, codes, string_bytes, IfOk};
 ghost use Rattle.std.specs.Option.{option_map};
-ghost use Rattle.plcx_command.specs.Answer.{line, broken_line, place_words, program_line, retained_line, row_line};
+ghost use Rattle.plcx_command.specs.Answer.{line, front, broken_line, place_words, program_line, retained_line, row_line};
 
 use plcx_model::{Broken, Place};
 use plcx_types::NoMemory;
 use std::alloc::Global;
+
+/// The project file that a line is about: the one that is read first, or the new one of a migration.
+#[derive(Clone, Copy, Debug, PartialEq, Eq)]
+pub enum ProjectFile {
+    First,
+    New,
+}
+
+/// What the words about a project file have in front.
+fn front(file: ProjectFile) -> &'static str
+    ensures { result.now ≡ front file }
+{
+    match file {
+        ProjectFile::First => "",
+        ProjectFile::New => "new file: ",
+    }
+}
 
 fn byte_words(alloc: Global, byte: u64) -> Result<String, NoMemory>
     ensures { IfOk result (λ text. string_bytes text ≡ codes "byte " ++ decimal byte) }
@@ -30,46 +47,50 @@ fn place_words(alloc: Global, place: &Place) -> Result<Vec<u8>, NoMemory>
     }
 }
 
-fn rule_words(alloc: Global, rule: u8) -> Result<String, NoMemory>
-    ensures { IfOk result (λ text. string_bytes text ≡ codes "plcx: rule " ++ (decimal rule ++ codes " at ")) }
+fn rule_words(alloc: Global, file: ProjectFile, rule: u8) -> Result<String, NoMemory>
+    ensures { IfOk result (λ text. string_bytes text ≡ codes "plcx: " ++ (front file ++ (codes "rule " ++ (decimal rule ++ codes " at ")))) }
 {
-    Ok(format!(in alloc; "plcx: rule {rule} at ")?)
+    let front = front(file);
+    Ok(format!(in alloc; "plcx: {front}rule {rule} at ")?)
 }
 
-/// The line of the first broken rule and its place.
-pub fn broken_line(alloc: Global, broken: &Broken) -> Result<Vec<u8>, NoMemory>
-    ensures { IfOk result (λ line. line.items ≡ broken_line broken.now) }
+/// The line of the first rule that a project file breaks, and its place.
+pub fn broken_line(alloc: Global, file: ProjectFile, broken: &Broken) -> Result<Vec<u8>, NoMemory>
+    ensures { IfOk result (λ line. line.items ≡ broken_line file broken.now) }
 {
     let place = place_words(alloc, &broken.place)?;
-    let mut line = rule_words(alloc, broken.rule.0)?.into_bytes();
+    let mut line = rule_words(alloc, file, broken.rule.0)?.into_bytes();
     line.extend_from_slice(&place)?;
     line.push(b'\n')?;
     Ok(line)
 }
 
-fn named_line(alloc: Global, name: &str) -> Result<String, NoMemory>
-    ensures { IfOk result (λ text. string_bytes text ≡ line (codes "no program " ++ name.now)) }
+fn named_line(alloc: Global, file: ProjectFile, name: &str) -> Result<String, NoMemory>
+    ensures { IfOk result (λ text. string_bytes text ≡ line (front file ++ (codes "no program " ++ name.now))) }
 {
-    Ok(format!(in alloc; "plcx: no program {name}\n")?)
+    let front = front(file);
+    Ok(format!(in alloc; "plcx: {front}no program {name}\n")?)
 }
 
-fn counted_line(alloc: Global, programs: u64) -> Result<String, NoMemory>
-    ensures { IfOk result (λ text. string_bytes text ≡ line (decimal programs ++ codes " programs, name one")) }
+fn counted_line(alloc: Global, file: ProjectFile, programs: u64) -> Result<String, NoMemory>
+    ensures { IfOk result (λ text. string_bytes text ≡ line (front file ++ (decimal programs ++ codes " programs, name one"))) }
 {
-    Ok(format!(in alloc; "plcx: {programs} programs, name one\n")?)
+    let front = front(file);
+    Ok(format!(in alloc; "plcx: {front}{programs} programs, name one\n")?)
 }
 
-/// The line where a program isn't there: its name, or how many there are where none is named.
+/// The line where a project file has no such program: its name, or how many there are where none is named.
 pub fn program_line(
     alloc: Global,
+    file: ProjectFile,
     program: Option<&str>,
     programs: u64,
 ) -> Result<Vec<u8>, NoMemory>
-    ensures { IfOk result (λ line. line.items ≡ program_line (option_map (λ s. s.now) program.entry) programs) }
+    ensures { IfOk result (λ line. line.items ≡ program_line file (option_map (λ s. s.now) program.entry) programs) }
 {
     match program {
-        Some(name) => Ok(named_line(alloc, name)?.into_bytes()),
-        None => Ok(counted_line(alloc, programs)?.into_bytes()),
+        Some(name) => Ok(named_line(alloc, file, name)?.into_bytes()),
+        None => Ok(counted_line(alloc, file, programs)?.into_bytes()),
     }
 }
 

@@ -3,11 +3,13 @@ ghost use Rattle.std.specs.Prelude.{◌≡◌, ◌≢◌, IfOk, OnOk};
 ghost use Rattle.std.specs.Option.{option_map};
 ghost use Rattle.plcx_words.specs.Says.{said_by_run};
 ghost use Rattle.plcx_traced.specs.declared.error.RunError.TheVariants as run_error;
-ghost use Rattle.plcx_command.specs.Answer.{refusal, ok_answer, usage_answer, not_built_answer, read_answer, broken_answer};
+ghost use Rattle.plcx_command.specs.Answer.{refusal, ok_answer, usage_answer, not_built_answer, read_answer, broken_answer, program_answer};
+ghost use Rattle.plcx_command.specs.Answer.{retained_line};
 ghost use Rattle.plcx_command.specs.Simulated.{refused_as, error_line};
+ghost use Rattle.plcx_command.specs.declared.status.Refused.TheVariants as why;
 ghost use Rattle.plcx_command.specs.ReplyOf.{answer_of};
 
-use crate::line::{broken_line, program_line, retained_line, row_line};
+use crate::line::{ProjectFile, broken_line, program_line, retained_line, row_line};
 use crate::reply::Reply;
 use crate::status::Refused;
 use plcx_model::Broken;
@@ -49,12 +51,33 @@ pub fn read_fault(alloc: Global, name: &str) -> Result<Reply, NoMemory>
     Ok(Reply::Refusal(Refused::ReadFault, line))
 }
 
-/// What a file answers that breaks a rule.
-pub fn broken(alloc: Global, broken: &Broken) -> Result<Reply, NoMemory>
-    ensures { IfOk result (λ reply. answer_of reply ≡ broken_answer broken.now) }
+/// What a project file answers that breaks a rule.
+pub fn broken(alloc: Global, file: ProjectFile, broken: &Broken) -> Result<Reply, NoMemory>
+    ensures { IfOk result (λ reply. answer_of reply ≡ broken_answer file broken.now) }
 {
-    let line = broken_line(alloc, broken)?;
+    let line = broken_line(alloc, file, broken)?;
     Ok(Reply::Refusal(Refused::Broken, line))
+}
+
+/// What a project file answers that has not the program.
+pub fn no_program(
+    alloc: Global,
+    file: ProjectFile,
+    program: Option<&str>,
+    programs: u64,
+) -> Result<Reply, NoMemory>
+    ensures { IfOk result (λ reply. answer_of reply ≡ program_answer file (option_map (λ s. s.now) program.entry) programs) }
+{
+    let line = program_line(alloc, file, program, programs)?;
+    Ok(Reply::Refusal(Refused::NoProgram, line))
+}
+
+/// What a retained file answers that is wrong at a line.
+pub fn wrong_line(alloc: Global, line: u64) -> Result<Reply, NoMemory>
+    ensures { IfOk result (λ reply. answer_of reply ≡ refusal why.EventsBroken (retained_line line)) }
+{
+    let line = retained_line(alloc, line)?;
+    Ok(Reply::Refusal(Refused::EventsBroken, line))
 }
 
 /// What a run answers that leaves no trace, unless memory is wanted.
@@ -64,14 +87,10 @@ pub fn no_trace(alloc: Global, run: &Run<'_>, error: RunError) -> Result<Reply, 
 {
     match error {
         RunError::NoProgram { programs } => {
-            let line = program_line(alloc, run.program, programs)?;
-            Ok(Reply::Refusal(Refused::NoProgram, line))
+            no_program(alloc, ProjectFile::First, run.program, programs)
         }
         RunError::RetainedRead => read_fault(alloc, run.retain.unwrap_or("")),
-        RunError::Line { line } => {
-            let line = retained_line(alloc, line)?;
-            Ok(Reply::Refusal(Refused::EventsBroken, line))
-        }
+        RunError::Line { line } => wrong_line(alloc, line),
         RunError::EventsRead => read_fault(alloc, run.events),
         RunError::Row { row } => {
             let line = row_line(alloc, row)?;

@@ -4,8 +4,8 @@ ghost use Rattle.std.specs.List.{fold};
 ghost use Rattle.plcx_io.specs.Counts.{Rose};
 ghost use Rattle.plcx_words.specs.Command.{command_of};
 ghost use Rattle.plcx_command.specs.Ends.{Ends, change};
-ghost use Rattle.plcx_command.specs.Headline.{ChecksExactly, CompilesExactly, SimulatesExactly, WatchesExactly, TellsProject, TellsAll};
-ghost use Rattle.plcx_command.specs.Headline.{RefusesUsage, RefusesBroken, RefusesRun, RefusesNotBuilt, BlamesReads, BlamesWrites, TellsMemory, IsComplete};
+ghost use Rattle.plcx_command.specs.Headline.{ChecksExactly, CompilesExactly, MigratesExactly, SimulatesExactly, WatchesExactly, TellsProject, TellsAll};
+ghost use Rattle.plcx_command.specs.Headline.{RefusesUsage, RefusesBroken, RefusesFor, RefusesNotBuilt, BlamesReads, BlamesWrites, TellsMemory, IsComplete};
 ghost use Rattle.plcx_command.specs.declared.status.Refused.TheVariants.{NoProgram, EventsBroken};
 
 use crate::deciding::decide;
@@ -66,6 +66,10 @@ pub fn plcx<D: Desk, O: Sink, E: Sink, W: Watch>(
         (change (O.written out.old) (O.written out.new) (O.faults out.old) (O.faults out.new))
         (change (E.written err.old) (E.written err.new) (E.faults err.old) (E.faults err.new)) }
 
+    ensures migrates { MigratesExactly (D.file desk.old) (command_of words.now) result
+        (change (O.written out.old) (O.written out.new) (O.faults out.old) (O.faults out.new))
+        (change (E.written err.old) (E.written err.new) (E.faults err.old) (E.faults err.new)) }
+
     ensures watches { WatchesExactly (D.file desk.old) (λ heard. watch.new ≡ fold W.told watch.old heard) (command_of words.now) result }
 
     ensures complete { IsComplete (D.file desk.old) (λ name. Rose (D.faults desk.old name) (D.faults desk.new name))
@@ -83,11 +87,11 @@ pub fn plcx<D: Desk, O: Sink, E: Sink, W: Watch>(
         (change (O.written out.old) (O.written out.new) (O.faults out.old) (O.faults out.new))
         (change (E.written err.old) (E.written err.new) (E.faults err.old) (E.faults err.new)) }
 
-    ensures no_program { RefusesRun NoProgram (TellsProject (D.file desk.old) (command_of words.now)) (D.file desk.old) (command_of words.now) result
+    ensures no_program { RefusesFor NoProgram (TellsProject (D.file desk.old) (command_of words.now)) (D.file desk.old) (command_of words.now) result
         (change (O.written out.old) (O.written out.new) (O.faults out.old) (O.faults out.new))
         (change (E.written err.old) (E.written err.new) (E.faults err.old) (E.faults err.new)) }
 
-    ensures events_broken { RefusesRun EventsBroken (TellsAll (D.file desk.old) (command_of words.now)) (D.file desk.old) (command_of words.now) result
+    ensures events_broken { RefusesFor EventsBroken (TellsAll (D.file desk.old) (command_of words.now)) (D.file desk.old) (command_of words.now) result
         (change (O.written out.old) (O.written out.new) (O.faults out.old) (O.faults out.new))
         (change (E.written err.old) (E.written err.new) (E.faults err.old) (E.faults err.new)) }
 

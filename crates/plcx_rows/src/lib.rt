@@ -11,6 +11,8 @@ mod files;
 #[cfg(test)]
 mod functions;
 #[cfg(test)]
+mod migrations;
+#[cfg(test)]
 mod runs;
 #[cfg(test)]
 mod tests;

@@ -16,8 +16,8 @@ use Rattle.plcx_model.specs.declared.project.Project.{Project}
 use Rattle.plcx_traced.specs.Programs.{IsMissing}
 use Rattle.plcx_view.specs.Declared.{kind_of_pou}
 use Rattle.plcx_view.specs.Diagrams.{pous_from, diagrams_of}
-use Rattle.plcx_simulate.specs.Programs.{programs_of}
-use Rattle.plcx_simulate.specs.Choosing.{is_program, is_program_named, count, chosen, NamesProgram}
+use Rattle.plcx_simulate.specs.Programs.{NamesProgram, programs_of}
+use Rattle.plcx_simulate.specs.Choosing.{is_program, is_program_named, count, chosen}
 
 -- diagrams of POUs: each has the kind and the name of its POU
 abbrev Shows : List Pou → List diagram.Pou → Type 0

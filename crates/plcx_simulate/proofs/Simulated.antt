@@ -7,8 +7,7 @@ use Rattle.plcx_words.specs.Command.{Run}
 use Rattle.plcx_state.specs.Layouts.{Laid, IsLaid}
 use Rattle.plcx_opening.specs.Opening.{IsLaidAs}
 use Rattle.plcx_traced.specs.Runs.{Chosen}
-use Rattle.plcx_simulate.specs.Choosing.{NamesProgram}
-use Rattle.plcx_simulate.specs.Programs.{programs_of, diagrams_in}
+use Rattle.plcx_simulate.specs.Programs.{NamesProgram, programs_of, diagrams_in}
 
 -- the program with its layout
 abbrev pub chosen : (checked : Checked) (r : Run) (name : List ℕ) (l : Laid) → NamesProgram (diagrams_in checked) r.program name → IsLaidAs (diagrams_in checked) name l → IsLaid l → Chosen (programs_of (diagrams_in checked)) r

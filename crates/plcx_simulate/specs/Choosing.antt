@@ -1,13 +1,10 @@
 -- Serves proofs: the program of a run, among the POUs of the file.
-use Rattle.std.specs.Prelude.{◌≡◌, ℕ, Bool, ◌&&◌, List, Option, Some, None, filter, find, length, nat_eq, if◌then◌else◌}
+use Rattle.std.specs.Prelude.{ℕ, Bool, ◌&&◌, List, Option, Some, None, filter, find, length, nat_eq, if◌then◌else◌}
 use Rattle.std.specs.Str.{bytes_eq}
 use Rattle.plcx_types.specs.Name.{in_lower_case}
-use Rattle.plcx_meaning.specs.Diagram as diagram
 use Rattle.plcx_meaning.specs.Tree as tree
 use Rattle.plcx_model.specs.declared.project.Pou.{Pou}
-use Rattle.plcx_traced.specs.Programs.{IsChosen}
 use Rattle.plcx_view.specs.Declared.{kind_of_pou}
-use Rattle.plcx_simulate.specs.Programs.{programs_of}
 
 -- the POU is a program
 unfoldable pub is_program : Pou → Bool
@@ -25,9 +22,3 @@ count pous = length (filter is_program pous)
 abbrev pub chosen : Option (List ℕ) → List Pou → Option Pou
 chosen (Some name) pous = find (is_program_named name) pous
 chosen None pous = if nat_eq (count pous) 1 then find is_program pous else None
-
--- the name is that of a program of the diagrams, which is the one that a run is of
-pub record NamesProgram (project : diagram.Project) (program : Option (List ℕ)) (name : List ℕ) : Type 0 where
-  pub pou : diagram.Pou
-  pub is : IsChosen (programs_of project) program pou
-  pub named : diagram.program_named name project ≡ Some pou

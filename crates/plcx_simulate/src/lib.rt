@@ -7,5 +7,6 @@ mod choosing;
 mod law;
 mod simulating;
 
+pub use choosing::program_of;
 pub use law::one_outcome;
-pub use simulating::simulate;
+pub use simulating::{layout_of, simulate};

@@ -16,10 +16,9 @@ ghost use Rattle.plcx_traced.specs.Files.{WhyNotFollowed};
 ghost use Rattle.plcx_traced.specs.Runs.{IsTraced, WhyNot};
 ghost use Rattle.plcx_simulate.specs.Watching.{Watches};
 ghost use Rattle.plcx_simulate.specs.Listening.{IsWatchedTrace, StopsWatched};
-ghost use Rattle.plcx_simulate.specs.Programs.{programs_of, diagrams_in};
-ghost use Rattle.plcx_simulate.specs.Choosing.{NamesProgram};
+ghost use Rattle.plcx_simulate.specs.Programs.{NamesProgram, programs_of, diagrams_in};
 
-use crate::choosing::{chosen, count};
+use crate::choosing::program_of;
 use plcx_check::Checked;
 use plcx_eval::{DiagramSide, Watched, diagram_layout, heard_in_order, watch_is_told};
 use plcx_io::Desk;
@@ -32,7 +31,7 @@ use plcx_words::Run;
 use std::alloc::Global;
 
 /// The layout of a program that there is.
-fn layout_of(alloc: Global, checked: &Checked, program: &Ident) -> Result<Layout, NoMemory>
+pub fn layout_of(alloc: Global, checked: &Checked, program: &Ident) -> Result<Layout, NoMemory>
     requires { (p : Meant) × (program_named program.now (diagrams_in checked.now) ≡ Some p) }
     ensures laid { IfOk result (λ l. IsLaidAs (diagrams_in checked.now) program.now l) }
     ensures numbered { IfOk result IsLaid }
@@ -156,11 +155,8 @@ pub fn simulate<D: Desk, W: Watch>(
     ensures files { (other : List ℕ) → D.file desk.new other ≡ D.file desk.old other }
     ensures later { (other : List ℕ) → D.faults desk.old other ≤ D.faults desk.new other }
 {
-    let pous = checked.project().pous();
-    let Some(pou) = chosen(pous, run.program) else {
-        return Err(RunError::NoProgram {
-            programs: count(pous) as u64,
-        });
-    };
-    simulated(alloc, checked, &pou.name, run, desk, watch)
+    match program_of(checked, run.program) {
+        Ok(program) => simulated(alloc, checked, program, run, desk, watch),
+        Err(programs) => Err(RunError::NoProgram { programs }),
+    }
 }

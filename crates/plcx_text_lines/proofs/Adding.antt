@@ -1,8 +1,9 @@
 -- Pieces behind one another.
-use Rattle.std.proofs.Common.{◌≡◌, ℕ, ◌+◌, List, [], ◌∷◌, ◌++◌, length, map, refl, sym, ap, ◌∙◌, subst, append_assoc}
+use Rattle.std.proofs.Common.{◌≡◌, ℕ, ◌+◌, List, [], ◌∷◌, ◌++◌, length, map, sym, ap, ap₂, ◌∙◌, subst, append_assoc}
 use Rattle.std.proofs.lemmas.List.{append-nil, length-append, length-map}
+use Rattle.plcx_types.specs.Value.{Value}
+use Rattle.plcx_steps.specs.declared.program.Argument.{Argument}
 use Rattle.plcx_text_steps.specs.declared.text.Line.{Line}
-use Rattle.plcx_text_steps.specs.declared.text.Arm.{Arm}
 use Rattle.plcx_text_steps.specs.declared.text.Section.{Section}
 use Rattle.plcx_text_pieces.specs.Pieces.{Part, Piece, Start, nothing, joined, after, boxed}
 use Rattle.plcx_text_lines.specs.declared.emitting.Prepared.{Prepared}
@@ -64,6 +65,14 @@ adds_next p q a b c first second = adds_then p (q (after (start_of a) p)) a b c 
 -- what is added is a piece that is the same
 pub adds_same : (p q : Piece) (a b : Prepared) → p ≡ q → Adds p a b → Adds q a b
 adds_same p q a b same h = subst (λ r. Adds r a b) same h
+
+-- lines, inputs and wires, one behind another
+pub adds_three : (ls : List Line) (xs : List Argument) (ws : List Value) (a b c d : Prepared) → Adds (record nothing { lines = ls }) a b → Adds (record nothing { arguments = xs }) b c → Adds (record nothing { wires = ws }) c d
+    → Adds (record nothing { lines = ls; arguments = xs; wires = ws }) a d
+adds_three ls xs ws a b c d first second third =
+    adds_same _ _ a d
+    (ap₂ (λ (ms : List Line) (ys : List Argument). let p : Piece = record nothing { lines = ms; arguments = ys; wires = ws } in p) (append-nil ls) (append-nil xs))
+    (adds_then _ _ a b d first (adds_then _ _ b c d second third))
 
 -- what is prepared without the lines
 pub start_opened : (a inner : Prepared) (outer : List Line) → Opens a inner outer → start_of inner ≡ start_of a

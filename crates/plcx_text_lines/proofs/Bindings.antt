@@ -2,7 +2,7 @@
 use Rattle.std.proofs.Common.{◌≡◌, ℕ, Bool, true, false, cond, Bor, List, [], ◌∷◌, map, Option, Some, None, refl, sym, ap, ◌∙◌}
 use Rattle.std.specs.Option.{option_and_then, option_copied}
 use Rattle.std.specs.Prelude.{slice_get, if◌then◌else◌}
-use Rattle.std.specs.List.{find, position_from}
+use Rattle.std.specs.List.{find}
 use Rattle.std.specs.Str.{bytes_eq}
 use Rattle.plcx_types.specs.Name.{in_lower_case}
 use Rattle.plcx_st.specs.declared.tree.Arg.{Arg}
@@ -39,3 +39,16 @@ bound_at c name args names place are is =
     first_bound c name args
     ∙ ap (bound_by c) (sym (at_place (of_name name) args)
     ∙ ap (option_and_then (slice_get args)) (sym (is ∙ ap (first_place name) are ∙ place_map (λ n. same_name n name) (λ (a : Arg). a.formal.name) 0 args)))
+
+-- the cases of the argument that is found there
+found_there : (c : Numbering) (name : List ℕ) (args : List Arg) (names : List (List ℕ)) (r : Option (Bor Arg)) → names ≡ formals args → option_copied r ≡ option_and_then (slice_get args) (first_place name names)
+    → bound_by c (option_copied r) ≡ bound_operand c (map arg_meant args) (in_lower_case name)
+found_there c name args names r are there = ap (bound_by c) there ∙ sym (bound_at c name args names (first_place name names) are refl)
+
+pub bound_none : (c : Numbering) (name : List ℕ) (args : List Arg) (names : List (List ℕ)) (r : Option (Bor Arg)) → names ≡ formals args → option_copied r ≡ option_and_then (slice_get args) (first_place name names) → r ≡ None
+    → Leaf 0 ≡ bound_operand c (map arg_meant args) (in_lower_case name)
+bound_none c name args names r are there none = sym (ap (λ q. bound_by c (option_copied q)) none) ∙ found_there c name args names r are there
+
+pub bound_here : (c : Numbering) (name : List ℕ) (args : List Arg) (names : List (List ℕ)) (r : Option (Bor Arg)) (a : Bor Arg) (o : Operand) → names ≡ formals args → option_copied r ≡ option_and_then (slice_get args) (first_place name names) → r ≡ Some a
+    → o ≡ operand_in c (expr_meant a.now.value) → o ≡ bound_operand c (map arg_meant args) (in_lower_case name)
+bound_here c name args names r a o are there found value = value ∙ sym (ap (λ q. bound_by c (option_copied q)) found) ∙ found_there c name args names r are there

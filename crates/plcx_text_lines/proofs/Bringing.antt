@@ -1,13 +1,16 @@
 -- What expressions add, by what their parts add.
-use Rattle.std.proofs.Common.{◌≡◌, ℕ, List, [], ◌∷◌, ◌++◌, length, map, Option, Some, None, refl, sym, ap, ap₂, ◌∙◌, subst, append_assoc}
-use Rattle.std.proofs.lemmas.List.{append-nil}
+use Rattle.std.proofs.Common.{◌≡◌, ℕ, zero, suc, ◌+◌, ◌<◌, ◌≤◌, List, [], ◌∷◌, ◌++◌, length, map, Option, Some, refl, sym, ap, ap₂, ◌∙◌, subst, append_assoc, drop, get_or, arith}
+use Rattle.std.proofs.lemmas.List.{append-nil, at_drop_more, at_drop_all}
 use Rattle.plcx_types.specs.declared.ty.Ty.{Ty}
+use Rattle.plcx_types.specs.Lists.{Each}
 use Rattle.plcx_funcs.specs.declared.func.Func.{Func}
 use Rattle.plcx_funcs.specs.declared.func.Func.TheVariants as func
 use Rattle.plcx_funcs.specs.Names.{function_named}
-use Rattle.plcx_meaning.specs.Tree.{Operator, Expression, Apply, Not, Binary, Expressions, expressions}
+use Rattle.plcx_meaning.specs.Tree.{Operator, Expression, Apply, Not, Binary, expressions}
 use Rattle.plcx_meaning.specs.Execute.{function_of}
 use Rattle.plcx_meaning.specs.Typed.{result_type, call_type, expression_type}
+use Rattle.plcx_st.specs.declared.tree.Expr.{Expr}
+use Rattle.plcx_st.specs.Meant.{expr_meant}
 use Rattle.plcx_steps.specs.declared.program.Argument.{Argument}
 use Rattle.plcx_steps.specs.declared.program.Source.TheVariants.{Wire}
 use Rattle.plcx_text_numbered.specs.Prepared.{Numbering, or_bool, wires_of, all_wires, argument, inputs}
@@ -104,3 +107,34 @@ brings_next c e es before next behind x more first rest =
       values = ap₂ (λ (u : Argument) (us : List Argument). u ∷ us) first.value (rest.values ∙ ap (λ (t : Start). inputs c t.wires (expressions es)) at)
           ∙ sym (first_of_inputs c s.wires s e (expressions es) refl);
     }
+
+-- ---- loops
+
+-- the rest of a list from a place on
+pub rest_more : {X Y : Type 0} (f : X → Y) (xs : List X) (i : ℕ) (x : X) → i < length xs → x ≡ get_or xs i x → map f (drop i xs) ≡ f x ∷ map f (drop (i + 1) xs)
+rest_more f xs i x less is = at_drop_more (map f) xs i x less ∙ ap (λ y. f y ∷ map f (drop (i + 1) xs)) (sym is)
+
+pub rest_none : {X Y : Type 0} (f : X → Y) (xs : List X) (i : ℕ) → length xs ≤ i → map f (drop i xs) ≡ []
+rest_none f xs i more = at_drop_all (map f) xs i more
+
+-- what holds of each is held of one
+pub each_of : {X Y : Type 0} (P : Y → Type 0) (f : X → Y) (xs : List X) (i : ℕ) (x : X) → Each P (map f xs) → i < length xs → x ≡ get_or xs i x → P (f x)
+each_of P f [] i x all less is = absurd (omega arith)
+each_of P f (y ∷ ys) zero x all less is = subst (λ z. P (f z)) (sym is) all.0
+each_of P f (y ∷ ys) (suc i) x all less is = let low : i < length ys = omega arith in each_of P f ys i x all.1 low is
+
+-- the inputs so far, whatever the rest brings
+abbrev pub Goes : Numbering → List Expr → ℕ → Prepared → List Argument → (whole : List Expression) → Prepared → Type 0
+Goes c args i all own whole before = (behind : Prepared) (more : List Argument) → BringsAll c (map expr_meant (drop i args)) all behind more → BringsAll c whole before behind (own ++ more)
+
+pub brings_more : (c : Numbering) (args : List Expr) (i : ℕ) (x : Expr) (all next before : Prepared) (own given : List Argument) (a : Argument) (whole : List Expression) → i < length args → x ≡ get_or args i x → Brings c (expr_meant x) all next a
+    → given ≡ own ++ a ∷ [] → Goes c args i all own whole before → Goes c args (i + 1) next given whole before
+brings_more c args i x all next before own given a whole less is one grown inv behind more h =
+    let rest : BringsAll c (map expr_meant (drop i args)) all behind (a ∷ more) =
+    subst (λ (es : List Expression). BringsAll c es all behind (a ∷ more)) (sym (rest_more expr_meant args i x less is)) (brings_next c (expr_meant x) (map expr_meant (drop (i + 1) args)) all next behind a more one h) in
+    subst (λ (us : List Argument). BringsAll c whole before behind us) (sym (ap (λ us. us ++ more) grown ∙ append_assoc own (a ∷ []) more)) (inv behind (a ∷ more) rest)
+
+pub brings_end : (c : Numbering) (args : List Expr) (i : ℕ) (all before : Prepared) (own : List Argument) (whole : List Expression) → length args ≤ i → Goes c args i all own whole before → BringsAll c whole before all own
+brings_end c args i all before own whole more inv =
+    subst (λ (us : List Argument). BringsAll c whole before all us) (append-nil own)
+    (inv all [] (subst (λ (es : List Expression). BringsAll c es all all []) (sym (rest_none expr_meant args i more)) (brings_none c all)))

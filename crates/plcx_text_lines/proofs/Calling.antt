@@ -1,9 +1,13 @@
 -- What assignments and calls add, by what their parts add.
-use Rattle.std.proofs.Common.{◌≡◌, ℕ, ◌+◌, List, [], ◌∷◌, ◌++◌, length, map, Option, Some, None, refl, sym, ap, ap₂, ◌∙◌, subst, append_assoc, arith}
+use Rattle.std.proofs.Common.{◌≡◌, ℕ, ◌+◌, ◌<◌, ◌≤◌, List, [], ◌∷◌, ◌++◌, length, map, refl, sym, ap, ap₂, ◌∙◌, subst, append_assoc, drop, get_or}
 use Rattle.std.proofs.lemmas.List.{append-nil, length-append}
 use Rattle.plcx_types.specs.declared.ty.Ty.{Ty}
+use Rattle.plcx_std.specs.declared.kind.StdKind.{StdKind}
 use Rattle.plcx_meaning.specs.Tree.{Expression, Argument}
 use Rattle.plcx_meaning.specs.Execute.{Formal, Takes, Binds, NoFormal}
+use Rattle.plcx_st.specs.declared.tree.Arg.{Arg}
+use Rattle.plcx_st.specs.Meant.{arg_meant}
+use Rattle.plcx_steps.specs.declared.program.Operand.{Operand}
 use Rattle.plcx_steps.specs.declared.program.Operand.TheVariants.{Leaf}
 use Rattle.plcx_steps.specs.declared.program.Source.{Source}
 use Rattle.plcx_steps.specs.declared.program.Source.TheVariants.{Wire}
@@ -11,15 +15,17 @@ use Rattle.plcx_steps.specs.declared.program.Argument.{Argument as Input}
 use Rattle.plcx_steps.specs.declared.program.Action.TheVariants as action
 use Rattle.plcx_text_steps.specs.declared.text.Line.{Line}
 use Rattle.plcx_text_steps.specs.declared.text.Line.TheVariants as line
-use Rattle.plcx_text_numbered.specs.Prepared.{Numbering, wires_of, source_of, argument}
+use Rattle.plcx_text_numbered.specs.Prepared.{Numbering, source_of, argument}
 use Rattle.plcx_text_numbered.specs.Statements.{formal_of, taken_wires, store_line, store_one, store_lines}
-use Rattle.plcx_text_pieces.specs.Called.{Callee, Numbers}
-use Rattle.plcx_text_pieces.specs.Pieces.{Piece, Start, nothing, joined, after, one_line, wire_value, wire_values, value_piece, assign_piece, fixed_piece, taken_piece, all_taken_piece, bindings_for, called_lines, run_piece, call_piece}
+use Rattle.plcx_text_numbered.specs.Numbers.{bound_operands}
+use Rattle.plcx_text_pieces.specs.Called.{Callee, Block, User, Numbers}
+use Rattle.plcx_text_pieces.specs.Pieces.{Start, nothing, after, one_line, wire_value, wire_values, value_piece, assign_piece, fixed_piece, taken_piece, all_taken_piece, bindings_for, called_lines, run_piece, call_piece}
 use Rattle.plcx_text_pieces.proofs.Values.{wires_count}
 use Rattle.plcx_text_lines.specs.declared.emitting.Prepared.{Prepared}
 use Rattle.plcx_text_lines.specs.Added as added
 use Rattle.plcx_text_lines.specs.Added.{start_of, Adds, Brings, TakesOne}
 use Rattle.plcx_text_lines.proofs.Adding.{adds_nothing, adds_then, start_then}
+use Rattle.plcx_text_lines.proofs.Bringing.{rest_more, rest_none}
 
 -- what has the value
 pub source_is : (c : Numbering) (e : Expression) (before behind : Prepared) (x : Input) → Brings c e before behind x → x.source ≡ source_of c (length before.wires.items) e
@@ -112,3 +118,35 @@ calls n i args before taken stored behind stores k first second is last =
     let storing : Adds (record nothing { lines = store_lines n.names i s.wires args }) taken stored =
     subst (λ (ls : List Line). Adds (record nothing { lines = ls }) taken stored) first.stored second in
     adds_then p (run_piece n (after s p) s.wires i args) before taken behind first.added (adds_then _ _ taken stored behind storing called)
+
+-- ---- loops
+
+-- the lines that store, whatever the rest of the arguments adds
+abbrev pub Goes : Numbering → List ℕ → List Arg → ℕ → Prepared → List Line → (whole : List Argument) → Prepared → Type 0
+Goes c i args k all stores whole before =
+    (behind : Prepared) (more : List Line) → added.Takes c i (map arg_meant (drop k args)) all behind more → added.Takes c i whole before behind (stores ++ more)
+
+pub takes_more : (c : Numbering) (i : List ℕ) (args : List Arg) (k : ℕ) (x : Arg) (all next before : Prepared) (stores later : List Line) (whole : List Argument) → k < length args → x ≡ get_or args k x
+    → TakesOne c i (arg_meant x) all next stores later → Goes c i args k all stores whole before → Goes c i args (k + 1) next later whole before
+takes_more c i args k x all next before stores later whole less is one inv behind more h =
+    let a = arg_meant x in
+    let here = store_one (formal_of c i a) c i (length all.wires.items) a in
+    let rest : added.Takes c i (map arg_meant (drop k args)) all behind (here ++ more) =
+    subst (λ (es : List Argument). added.Takes c i es all behind (here ++ more)) (sym (rest_more arg_meant args k x less is)) (takes_next c i a all (map arg_meant (drop (k + 1) args)) next behind stores later more one h) in
+    subst (λ (ls : List Line). added.Takes c i whole before behind ls) (sym (ap (λ ls. ls ++ more) one.stored ∙ append_assoc stores here more)) (inv behind (here ++ more) rest)
+
+pub takes_end : (c : Numbering) (i : List ℕ) (args : List Arg) (k : ℕ) (all before : Prepared) (stores : List Line) (whole : List Argument) → length args ≤ k → Goes c i args k all stores whole before → added.Takes c i whole before all stores
+takes_end c i args k all before stores whole more inv =
+    subst (λ (ls : List Line). added.Takes c i whole before all ls) (append-nil stores)
+    (inv all [] (subst (λ (es : List Argument). added.Takes c i es all all []) (sym (rest_none arg_meant args k more)) (takes_none c i all)))
+
+-- ---- the call itself
+
+pub runs_block : (c : Numbering) (kind : StdKind) (leaf first : ℕ) (args : List Argument) (before behind : Prepared) → Adds (one_line (line.Act (action.Standard kind leaf))) before behind
+    → Adds (record nothing { lines = called_lines (Block kind leaf) first; bindings = bindings_for c (Block kind leaf) args }) before behind
+runs_block c kind leaf first args before behind h = h
+
+pub runs_user : (c : Numbering) (pou leaves first : ℕ) (names : List (List ℕ)) (args : List Argument) (before called behind : Prepared) (l : Line) (os : List Operand) → Adds (one_line l) before called → l ≡ line.Call pou leaves first (length names)
+    → Adds (record nothing { bindings = os }) called behind → os ≡ bound_operands c args names → Adds (record nothing { lines = called_lines (User pou leaves names) first; bindings = bindings_for c (User pou leaves names) args }) before behind
+runs_user c pou leaves first names args before called behind l os one is more same =
+    adds_then _ _ before called behind (subst (λ (m : Line). Adds (one_line m) before called) is one) (subst (λ (ps : List Operand). Adds (record nothing { bindings = ps }) called behind) same more)

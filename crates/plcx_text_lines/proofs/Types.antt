@@ -1,5 +1,5 @@
 -- The types of expressions by those of their parts, and which parts have values.
-use Rattle.std.proofs.Common.{◌≡◌, ℕ, Bor, List, [], ◌∷◌, length, map, Option, Some, None, refl, sym, ap, ap₂, ◌∙◌, subst}
+use Rattle.std.proofs.Common.{◌≡◌, ℕ, ◌+◌, Bor, List, [], ◌∷◌, map, Option, Some, None, refl, sym, ap, ap₂, ◌∙◌}
 use Rattle.std.specs.Option.{option_map, option_and_then, option_copied}
 use Rattle.std.specs.Prelude.{slice_get}
 use Rattle.std.proofs.lemmas.Option.{slice_get-map}
@@ -12,11 +12,10 @@ use Rattle.plcx_meaning.specs.Tree.{Operator, Expression, Apply, Not, Binary, Ex
 use Rattle.plcx_meaning.specs.Layout.{Scope}
 use Rattle.plcx_meaning.specs.Functions.{group_index}
 use Rattle.plcx_meaning.specs.Execute.{function_of}
-use Rattle.plcx_meaning.specs.Typed.{result_type, call_type, expression_type, expression_types, IsInRange, AreInRange}
-use Rattle.plcx_meaning.specs.Ready.{ExpressionIsReady}
+use Rattle.plcx_meaning.specs.Typed.{result_type, call_type, expression_type, expression_types, AreInRange}
 use Rattle.plcx_meaning.proofs.Stuck.{and_then_some}
 use Rattle.plcx_steps.specs.declared.program.Argument.{Argument}
-use Rattle.plcx_text_numbered.specs.Prepared.{Numbering, or_bool, argument, inputs, group}
+use Rattle.plcx_text_numbered.specs.Prepared.{Numbering, or_bool, wires_of, argument, inputs, group}
 use Rattle.plcx_text_lines.specs.Added.{HasValue}
 
 -- ---- the type of a group
@@ -78,7 +77,7 @@ input_types c w no_expression types h = cc
 input_types c w (expression e es) types h =
     let r = and_then_some _ (expression_type c.scope e) types h in
     let s = mapped_some _ (expression_types c.scope es) types r.2 in
-    ap₂ (λ t ts. t ∷ ts) (argument_type c w e r.0 r.1) (input_types c _ es s.0 s.1) ∙ s.2
+    ap₂ (λ t ts. t ∷ ts) (argument_type c w e r.0 r.1) (input_types c (w + wires_of e) es s.0 s.1) ∙ s.2
 
 pub apply_type : (c : Numbering) (w : ℕ) (x : List ℕ) (es : Expressions) → HasValue c.scope (Apply x es)
     → or_bool (expression_type c.scope (Apply x es)) ≡ or_bool (call_type (function_named x) (map type_in (inputs c w es)))

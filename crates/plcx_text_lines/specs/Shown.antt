@@ -1,5 +1,5 @@
 -- What the code tells of names, in the terms of definitions.
-use Rattle.std.specs.Prelude.{ℕ, List, map, Bor}
+use Rattle.std.specs.Prelude.{map}
 use Rattle.plcx_types.specs.Name.{in_lower_case}
 use Rattle.plcx_meaning.specs.Execute as execute
 use Rattle.plcx_text_numbered.specs.Prepared as numbered

@@ -11,7 +11,7 @@ ghost use Rattle.plcx_text_pieces.specs.Pieces.{nothing, assign_piece, bindings_
 ghost use Rattle.plcx_text_lines.specs.Shown.{shown_place, shown_callee};
 ghost use Rattle.plcx_text_lines.specs.Added.{start_of, Adds, HasValue, Suits, TakesOne, Takes, formals};
 
-use crate::emitting::{Prepared, fixed, put, with_binding, with_line, with_lines};
+use crate::emitting::{Prepared, fixed, put, with_bindings, with_line, with_lines};
 use crate::expressions::expression;
 use crate::numbers::{Callee, Formal, Numbers, Place};
 use plcx_known::Names;
@@ -32,6 +32,7 @@ fn store_line(place: Place, source: Source) -> Line
 }
 
 /// An assignment.
+#[tactic(auto, using(crate::proofs::Calling::assigns))]
 pub(crate) fn assign<N: Numbers>(
     numbers: &N,
     alloc: Global,
@@ -39,8 +40,8 @@ pub(crate) fn assign<N: Numbers>(
     target: &Word,
     value: &Expr,
 ) -> Result<Prepared, NoMemory>
-    requires { HasValue (N.numbers numbers.now).names.scope (expr_meant value.now) }
-    ensures { IfOk result (λ behind. Adds (assign_piece (N.numbers numbers.now).names (start_of before) target.now.name (expr_meant value.now)) before behind) }
+    ensures { IfOk result (λ behind. HasValue (N.numbers numbers.now).names.scope (expr_meant value.now)
+        → Adds (assign_piece (N.numbers numbers.now).names (start_of before) target.now.name (expr_meant value.now)) before behind) }
 {
     let named = numbers.named(alloc, target.name.text())?;
     let (valued, value) = expression(numbers, alloc, before, value)?;
@@ -48,6 +49,7 @@ pub(crate) fn assign<N: Numbers>(
 }
 
 /// The value of an argument, brought into a wire where it is an input, and the lines that store the values more.
+#[tactic(auto, using(crate::proofs::Calling::takes_input, crate::proofs::Calling::takes_binding, crate::proofs::Calling::takes_nothing))]
 fn taken<N: Numbers>(
     numbers: &N,
     alloc: Global,
@@ -56,8 +58,8 @@ fn taken<N: Numbers>(
     instance: &[u8],
     arg: &Arg,
 ) -> Result<(Prepared, Vec<Line>), NoMemory>
-    requires { Suits (N.numbers numbers.now).names.scope instance.now (arg_meant arg.now) }
-    ensures { IfOk result (λ r. TakesOne (N.numbers numbers.now).names instance.now (arg_meant arg.now) before r.0 stores.items r.1.items) }
+    ensures { IfOk result (λ r. Suits (N.numbers numbers.now).names.scope instance.now (arg_meant arg.now)
+        → TakesOne (N.numbers numbers.now).names instance.now (arg_meant arg.now) before r.0 stores.items r.1.items) }
 {
     let part = numbers.part(alloc, instance, arg.formal.name.text())?;
     match part.formal {
@@ -82,8 +84,8 @@ fn all_taken<N: Numbers>(
     instance: &[u8],
     args: &[Arg],
 ) -> Result<(Prepared, Vec<Line>), NoMemory>
-    requires { Each (Suits (N.numbers numbers.now).names.scope instance.now) (map arg_meant args.now) }
-    ensures { IfOk result (λ r. Takes (N.numbers numbers.now).names instance.now (map arg_meant args.now) before r.0 r.1.items) }
+    ensures { IfOk result (λ r. Each (Suits (N.numbers numbers.now).names.scope instance.now) (map arg_meant args.now)
+        → Takes (N.numbers numbers.now).names instance.now (map arg_meant args.now) before r.0 r.1.items) }
 {
     let mut all = before;
     let mut stores = Vec::new(alloc);
@@ -133,50 +135,63 @@ fn formals_of<'a>(alloc: Global, args: &'a [Arg]) -> Result<Vec<&'a [u8]>, NoMem
     Ok(names)
 }
 
+/// The first argument of a name.
+fn argument_for<'a>(
+    alloc: Global,
+    args: &'a [Arg],
+    names: &Names,
+    name: &[u8],
+) -> Result<Option<&'a Arg>, NoMemory>
+    ensures { IfOk result (λ arg. option_copied arg ≡ option_and_then (slice_get args.entry.now) (first_place name.now names.now)) }
+{
+    match names.place(alloc, name)? {
+        None => Ok(None),
+        Some(place) => Ok(args.get(place)),
+    }
+}
+
+ghost use Rattle.std.specs.Prelude.{option_copied, option_and_then, slice_get};
+ghost use Rattle.plcx_known.specs.Names.{first_place};
+
 /// What an in-out is bound to.
+#[tactic(auto, using(crate::proofs::Bindings::bound_none, crate::proofs::Bindings::bound_here))]
 fn bound_operand<N: Numbers>(
     numbers: &N,
     alloc: Global,
     args: &[Arg],
-    formals: &Names,
+    names: &Names,
     name: &[u8],
 ) -> Result<Operand, NoMemory>
-    requires { formals.now ≡ formals args.now }
+    requires { names.now ≡ formals args.now }
     ensures { IfOk result (λ o. o ≡ bound_operand (N.numbers numbers.now).names (map arg_meant args.now) (in_lower_case name.now)) }
 {
-    match formals.place(alloc, name)? {
+    match argument_for(alloc, args, names, name)? {
         None => Ok(Operand::Leaf(0)),
-        Some(place) => match args.get(place) {
-            None => Ok(Operand::Leaf(0)),
-            Some(arg) => Ok(operand_in(numbers, alloc, &arg.value)?),
-        },
+        Some(arg) => Ok(operand_in(numbers, alloc, &arg.value)?),
     }
 }
 
 ghost use Rattle.plcx_types.specs.Name.{in_lower_case};
 
 /// What in-outs of these names are bound to.
-fn with_bound<N: Numbers>(
+fn bound_operands<N: Numbers>(
     numbers: &N,
     alloc: Global,
-    before: Prepared,
     args: &[Arg],
     in_outs: &[&[u8]],
-) -> Result<Prepared, NoMemory>
-    ensures { IfOk result (λ behind. Adds (record nothing {
-      bindings = bound_operands (N.numbers numbers.now).names (map arg_meant args.now) (map (λ n. in_lower_case n.now) in_outs.now);
-    }) before behind) }
+) -> Result<Vec<Operand>, NoMemory>
+    ensures { IfOk result (λ operands. operands.items ≡ bound_operands (N.numbers numbers.now).names (map arg_meant args.now) (map (λ n. in_lower_case n.now) in_outs.now)) }
 {
     let formals = Names::of(alloc, formals_of(alloc, args)?)?;
-    let mut all = before;
+    let mut operands = Vec::new(alloc);
     for name in in_outs {
-        let operand = bound_operand(numbers, alloc, args, &formals, *name)?;
-        all = with_binding(all, operand)?;
+        operands.push(bound_operand(numbers, alloc, args, &formals, *name)?)?;
     }
-    Ok(all)
+    Ok(operands)
 }
 
 /// The call itself.
+#[tactic(auto, using(crate::proofs::Calling::runs_block, crate::proofs::Calling::runs_user))]
 fn run<N: Numbers>(
     numbers: &N,
     alloc: Global,
@@ -207,12 +222,14 @@ fn run<N: Numbers>(
                 count,
             };
             let called = with_line(before, line)?;
-            Ok(with_bound(numbers, alloc, called, args, in_outs)?)
+            let operands = bound_operands(numbers, alloc, args, in_outs)?;
+            Ok(with_bindings(called, &operands)?)
         }
     }
 }
 
 /// A call of an instance.
+#[tactic(auto, using(crate::proofs::Calling::calls))]
 pub(crate) fn call<N: Numbers>(
     numbers: &N,
     alloc: Global,
@@ -220,8 +237,8 @@ pub(crate) fn call<N: Numbers>(
     instance: &Word,
     args: &[Arg],
 ) -> Result<Prepared, NoMemory>
-    requires { Each (Suits (N.numbers numbers.now).names.scope instance.now.name) (map arg_meant args.now) }
-    ensures { IfOk result (λ behind. Adds (call_piece (N.numbers numbers.now) (start_of before) instance.now.name (map arg_meant args.now)) before behind) }
+    ensures { IfOk result (λ behind. Each (Suits (N.numbers numbers.now).names.scope instance.now.name) (map arg_meant args.now)
+        → Adds (call_piece (N.numbers numbers.now) (start_of before) instance.now.name (map arg_meant args.now)) before behind) }
 {
     let name = instance.name.text();
     let (taken, stores) = all_taken(numbers, alloc, before, name, args)?;

@@ -63,6 +63,8 @@ pub(crate) fn with_line(before: Prepared, line: Line) -> Result<Prepared, NoMemo
         arms,
         wires,
     } = before;
+    let _no_action: Option<Action> = None;
+    let _no_source: Option<Source> = None;
     let lines = put(lines, line)?;
     Ok(Prepared {
         lines,
@@ -137,19 +139,19 @@ pub(crate) fn with_arguments(before: Prepared, more: &[Argument]) -> Result<Prep
     })
 }
 
-/// A binding more.
-pub(crate) fn with_binding(before: Prepared, binding: Operand) -> Result<Prepared, NoMemory>
-    ensures { IfOk result (λ behind. Adds (record nothing { bindings = binding ∷ [] }) before behind) }
+/// Bindings more.
+pub(crate) fn with_bindings(before: Prepared, more: &[Operand]) -> Result<Prepared, NoMemory>
+    ensures { IfOk result (λ behind. Adds (record nothing { bindings = more.now }) before behind) }
 {
     let Prepared {
         lines,
         arguments,
-        bindings,
+        mut bindings,
         sections,
         arms,
         wires,
     } = before;
-    let bindings = put(bindings, binding)?;
+    bindings.extend_from_slice(more)?;
     Ok(Prepared {
         lines,
         arguments,
@@ -185,7 +187,7 @@ pub(crate) fn with_arms(before: Prepared, more: &[Arm]) -> Result<Prepared, NoMe
 
 /// The same without lines, and the lines.
 pub(crate) fn opened(alloc: Global, before: Prepared) -> (Prepared, Vec<Line>)
-    ensures { Opens before result.0 result.1 }
+    ensures { Opens before result.0 result.1.items }
 {
     let Prepared {
         lines,

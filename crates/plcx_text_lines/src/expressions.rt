@@ -20,8 +20,7 @@ use std::alloc::Global;
 
 /// A literal.
 fn number(n: &Number) -> Argument
-    requires { InRange n.now.ty n.now.n }
-    ensures { (c : Numbering) (w : ℕ) → result ≡ argument c w (tree.Number (number_meant n.now)) }
+    ensures { (c : Numbering) (w : ℕ) → InRange n.now.ty n.now.n → result ≡ argument c w (tree.Number (number_meant n.now)) }
 {
     let value = Val::new(n.ty, n.n).unwrap_or(default_of(n.ty));
     Argument {
@@ -138,8 +137,7 @@ pub(crate) fn expression<N: Numbers>(
     before: Prepared,
     x: &Expr,
 ) -> Result<(Prepared, Argument), NoMemory>
-    requires { HasValue (N.numbers numbers.now).names.scope (expr_meant x.now) }
-    ensures { IfOk result (λ r. Brings (N.numbers numbers.now).names (expr_meant x.now) before r.0 r.1) }
+    ensures { IfOk result (λ r. HasValue (N.numbers numbers.now).names.scope (expr_meant x.now) → Brings (N.numbers numbers.now).names (expr_meant x.now) before r.0 r.1) }
 {
     match x {
         Expr::Number(n) => Ok((before, number(n))),
@@ -175,8 +173,8 @@ fn expressions<N: Numbers>(
     before: Prepared,
     args: &[Expr],
 ) -> Result<(Prepared, Vec<Argument>), NoMemory>
-    requires { Each (HasValue (N.numbers numbers.now).names.scope) (map expr_meant args.now) }
-    ensures { IfOk result (λ r. BringsAll (N.numbers numbers.now).names (map expr_meant args.now) before r.0 r.1.items) }
+    ensures { IfOk result (λ r. Each (HasValue (N.numbers numbers.now).names.scope) (map expr_meant args.now)
+        → BringsAll (N.numbers numbers.now).names (map expr_meant args.now) before r.0 r.1.items) }
 {
     let mut all = before;
     let mut inputs = Vec::new(alloc);

@@ -3,11 +3,11 @@ ghost use Rattle.std.specs.Prelude.{◌≡◌, map, length, Some, IfOk};
 ghost use Rattle.plcx_types.specs.declared.ty.Ty.{Ty};
 ghost use Rattle.plcx_steps.specs.declared.program.Argument.{Argument};
 ghost use Rattle.plcx_steps.specs.declared.program.Source.TheVariants.{Wire};
-ghost use Rattle.plcx_text_numbered.specs.Prepared.{or_bool, group};
-ghost use Rattle.plcx_text_pieces.specs.Pieces.{applied_piece};
+ghost use Rattle.plcx_text_numbered.specs.Prepared.{or_bool, group, named_lines};
+ghost use Rattle.plcx_text_pieces.specs.Pieces.{nothing, applied_piece};
 ghost use Rattle.plcx_text_lines.specs.Added.{start_of, Adds};
 
-use crate::emitting::{Prepared, put, with_arguments, with_line, with_wire};
+use crate::emitting::{Prepared, with_arguments, with_line, with_wire};
 use plcx_funcs::Func;
 use plcx_signatures::group_index;
 use plcx_steps::{Action, Argument, Source};
@@ -44,8 +44,32 @@ fn group(func: Func, inputs: &[Argument]) -> Ty
     }
 }
 
+/// The call of a function, if there is one, for these inputs, which are the next of the program's.
+fn with_call(
+    before: Prepared,
+    func: Option<Func>,
+    inputs: &[Argument],
+) -> Result<Prepared, NoMemory>
+    ensures { IfOk result (λ behind. Adds (record nothing { lines = named_lines func inputs.now (length before.arguments.items) (length before.wires.items) }) before behind) }
+{
+    match func {
+        None => Ok(before),
+        Some(func) => {
+            let action = Action::Apply {
+                func,
+                ty: group(func, inputs),
+                first: before.arguments.len(),
+                count: inputs.len(),
+                wire: before.wires.len(),
+            };
+            Ok(with_line(before, Line::Act(action))?)
+        }
+    }
+}
+
 /// A call of a function, if there is one, for these inputs and with a result of this type: its line, its inputs, and the
 /// wire that gets its value.
+#[tactic(auto, using(crate::proofs::Adding::adds_three))]
 pub(crate) fn applied(
     before: Prepared,
     func: Option<Func>,
@@ -55,12 +79,9 @@ pub(crate) fn applied(
     ensures added { IfOk result (λ r. Adds (applied_piece (start_of before) func inputs.now ty) before r.0) }
     ensures value { IfOk result (λ r. r.1 ≡ record { ty = ty; source = Wire (length before.wires.items) }) }
 {
-    let wire = before.wires.len();
-    let source = Source::Wire(wire);
-    let called = match func {
-        None => before,
-        Some(func) => with_call(before, func, inputs, wire)?,
-    };
+    let source = Source::Wire(before.wires.len());
+    let called = with_call(before, func, inputs)?;
     let given = with_arguments(called, inputs)?;
-    Ok((with_wire(given, ty)?, Argument { ty, source }))
+    let behind = with_wire(given, ty)?;
+    Ok((behind, Argument { ty, source }))
 }

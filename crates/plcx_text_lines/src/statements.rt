@@ -5,7 +5,7 @@ ghost use Rattle.plcx_meaning.specs.Tree as tree;
 ghost use Rattle.plcx_meaning.specs.Ready.{StatementIsReady};
 ghost use Rattle.plcx_st.specs.Meant.{expr_meant, stmt_meant};
 ghost use Rattle.plcx_st.specs.Printer.{arm_meant};
-ghost use Rattle.plcx_text_pieces.specs.Pieces.{choice_piece, statement_piece, statements_piece, value_piece};
+ghost use Rattle.plcx_text_pieces.specs.Pieces.{statement_piece, statements_piece, value_piece};
 ghost use Rattle.plcx_text_lines.specs.Added.{start_of, Adds, HasValue, AddsBoxed, AddsArms, ArmIsReady};
 
 use crate::calls::{assign, call};
@@ -25,9 +25,10 @@ fn test<N: Numbers>(
     before: Prepared,
     cond: &Expr,
 ) -> Result<(Prepared, usize, Source), NoMemory>
-    requires { HasValue (N.numbers numbers.now).names.scope (expr_meant cond.now) }
-    ensures added { IfOk result (λ r. AddsBoxed (N.numbers numbers.now).pou (value_piece (N.numbers numbers.now).names (start_of before) (expr_meant cond.now)) before r.0 r.1) }
-    ensures source { IfOk result (λ r. r.2 ≡ source_of (N.numbers numbers.now).names (length before.wires.items) (expr_meant cond.now)) }
+    ensures added { IfOk result (λ r. HasValue (N.numbers numbers.now).names.scope (expr_meant cond.now)
+        → AddsBoxed (N.numbers numbers.now).pou (value_piece (N.numbers numbers.now).names (start_of before) (expr_meant cond.now)) before r.0 r.1) }
+    ensures source { IfOk result (λ r. HasValue (N.numbers numbers.now).names.scope (expr_meant cond.now)
+        → r.2 ≡ source_of (N.numbers numbers.now).names (length before.wires.items) (expr_meant cond.now)) }
 {
     let (inner, outer) = opened(alloc, before);
     let (tested, value) = expression(numbers, alloc, inner, cond)?;
@@ -62,8 +63,8 @@ fn statement<N: Numbers>(
     before: Prepared,
     s: &Stmt,
 ) -> Result<Prepared, NoMemory>
-    requires { StatementIsReady (N.numbers numbers.now).names.scope (stmt_meant s.now) }
-    ensures { IfOk result (λ behind. Adds (statement_piece (N.numbers numbers.now) (stmt_meant s.now) (start_of before)) before behind) }
+    ensures { IfOk result (λ behind. StatementIsReady (N.numbers numbers.now).names.scope (stmt_meant s.now)
+        → Adds (statement_piece (N.numbers numbers.now) (stmt_meant s.now) (start_of before)) before behind) }
 {
     match s {
         Stmt::Assign { target, value } => Ok(assign(numbers, alloc, before, target, value)?),
@@ -105,8 +106,8 @@ fn statements<N: Numbers>(
     before: Prepared,
     body: &[Stmt],
 ) -> Result<Prepared, NoMemory>
-    requires { Each (StatementIsReady (N.numbers numbers.now).names.scope) (map stmt_meant body.now) }
-    ensures { IfOk result (λ behind. Adds (statements_piece (N.numbers numbers.now) (tree.statements (map stmt_meant body.now)) (start_of before)) before behind) }
+    ensures { IfOk result (λ behind. Each (StatementIsReady (N.numbers numbers.now).names.scope) (map stmt_meant body.now)
+        → Adds (statements_piece (N.numbers numbers.now) (tree.statements (map stmt_meant body.now)) (start_of before)) before behind) }
 {
     let mut all = before;
     for s in body {
@@ -123,8 +124,7 @@ fn section<N: Numbers>(
     before: Prepared,
     body: &[Stmt],
 ) -> Result<(Prepared, usize), NoMemory>
-    requires { Each (StatementIsReady (N.numbers numbers.now).names.scope) (map stmt_meant body.now) }
-    ensures { IfOk result (λ r. AddsBoxed (N.numbers numbers.now).pou
+    ensures { IfOk result (λ r. Each (StatementIsReady (N.numbers numbers.now).names.scope) (map stmt_meant body.now) → AddsBoxed (N.numbers numbers.now).pou
         (statements_piece (N.numbers numbers.now) (tree.statements (map stmt_meant body.now)) (start_of before)) before r.0 r.1) }
 {
     let (inner, outer) = opened(alloc, before);
@@ -140,8 +140,8 @@ fn sections<N: Numbers>(
     before: Prepared,
     arms: &[plcx_st::Arm],
 ) -> Result<(Prepared, Vec<Arm>), NoMemory>
-    requires { Each (ArmIsReady (N.numbers numbers.now).names.scope) (map arm_meant arms.now) }
-    ensures { IfOk result (λ r. AddsArms (N.numbers numbers.now) (tree.arms (map arm_meant arms.now)) before r.0 r.1.items) }
+    ensures { IfOk result (λ r. Each (ArmIsReady (N.numbers numbers.now).names.scope) (map arm_meant arms.now)
+        → AddsArms (N.numbers numbers.now) (tree.arms (map arm_meant arms.now)) before r.0 r.1.items) }
 {
     let mut all = before;
     let mut choices = Vec::new(alloc);

@@ -9,3 +9,9 @@ returns-in-Compile-clause-says g c = rw c.in-Compile.is c.compile_file.ensures
 
 pub returns-in-Simulate-clause-says : goal.returns-in-Simulate-clause-says
 returns-in-Simulate-clause-says g c = rw c.in-Simulate.is c.simulate_file.ensures.says
+
+pub returns-in-Migrate-clause-says : goal.returns-in-Migrate-clause-says
+returns-in-Migrate-clause-says g c = rw c.in-Migrate.is c.migrate_file.ensures
+
+pub returns-in-Report-clause-says : goal.returns-in-Report-clause-says
+returns-in-Report-clause-says g c = rw c.in-Report.is c.migrate_file-in-Report.ensures

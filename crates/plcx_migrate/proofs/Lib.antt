@@ -1,0 +1,2 @@
+pub mod OneVersion
+pub mod OneMigration

@@ -1,0 +1,158 @@
+use crate::files::{ONE_WIRE, TWO_PROGRAMS};
+use crate::tests::{Failing, NONE, run_over};
+use plcx_command::Status;
+use plcx_steps::Silent;
+use std::test::Fail;
+
+const OLD: &str =
+    "<project xmlns=\"http://www.plcopen.org/xml/tc6_0201\"><types><pous><pou name=\"Main\" pouType=\"program\"><interface><localVars retain=\"true\"><variable name=\"C\"><type><SINT/></type></variable></localVars></interface><body><FBD/></body></pou></pous></types></project>";
+
+const WIDER: &str =
+    "<project xmlns=\"http://www.plcopen.org/xml/tc6_0201\"><types><pous><pou name=\"Main\" pouType=\"program\"><interface><localVars retain=\"true\"><variable name=\"C\"><type><INT/></type></variable><variable name=\"D\"><type><BOOL/></type></variable></localVars></interface><body><FBD/></body></pou></pous></types></project>";
+
+const UNSIGNED: &str =
+    "<project xmlns=\"http://www.plcopen.org/xml/tc6_0201\"><types><pous><pou name=\"Main\" pouType=\"program\"><interface><localVars retain=\"true\"><variable name=\"C\"><type><USINT/></type></variable></localVars></interface><body><FBD/></body></pou></pous></types></project>";
+
+/// An action's call over an old, a new and a retained file, with its status, output and line.
+type Row<'a> = (&'a str, [&'a str; 3], Status, &'a str, &'a str);
+
+#[test]
+fn carries_values_to_a_new_version(rt: HostRuntime) -> Result<(), Fail> {
+    let alloc = rt.alloc();
+    let rows: [Row; 4] = [
+        (
+            "migrate",
+            [OLD, WIDER, "retain,C,SINT#100\n"],
+            Status::Done,
+            "retain,C,INT#100\nretain,D,FALSE\n",
+            "",
+        ),
+        (
+            "report",
+            [OLD, WIDER, "retain,C,SINT#100\n"],
+            Status::Done,
+            "changed,C,INT#100\nfresh,D,FALSE\n",
+            "",
+        ),
+        (
+            "report",
+            [OLD, UNSIGNED, "retain,C,SINT#-1"],
+            Status::Done,
+            "fresh,C,USINT#0\ndropped,C,SINT#-1\n",
+            "",
+        ),
+        (
+            "report",
+            [OLD, OLD, "retain,c,5"],
+            Status::Done,
+            "kept,C,SINT#5\n",
+            "",
+        ),
+    ];
+    for (action, texts, status, out, err) in rows {
+        let [old, new, kept] = texts;
+        let files = [("old.xml", old), ("new.xml", new), ("kept.csv", kept)];
+        let words = [action, "old.xml", "new.xml", "--retain", "kept.csv"];
+        let left = run_over(alloc, &words, &files, NONE, &mut Silent)?;
+        assert!(rt; left.is(status, out, err), "at {out}");
+    }
+    Ok(())
+}
+
+#[test]
+fn refuses_a_migration_by_what_comes_first(rt: HostRuntime) -> Result<(), Fail> {
+    let alloc = rt.alloc();
+    let bad = "retain,C,1000\n";
+    let rows: [Row; 6] = [
+        (
+            "migrate",
+            ["<a", "<a", bad],
+            Status::Broken,
+            "",
+            "plcx: rule 2 at byte 0\n",
+        ),
+        (
+            "report",
+            [TWO_PROGRAMS, "<a", bad],
+            Status::NoProgram,
+            "",
+            "plcx: 2 programs, name one\n",
+        ),
+        (
+            "migrate",
+            [OLD, "<a", bad],
+            Status::Broken,
+            "",
+            "plcx: new file: rule 2 at byte 0\n",
+        ),
+        (
+            "report",
+            [OLD, TWO_PROGRAMS, bad],
+            Status::NoProgram,
+            "",
+            "plcx: new file: 2 programs, name one\n",
+        ),
+        (
+            "migrate",
+            [OLD, WIDER, bad],
+            Status::EventsBroken,
+            "",
+            "plcx: retained line 1\n",
+        ),
+        ("migrate", [ONE_WIRE, ONE_WIRE, ""], Status::Done, "", ""),
+    ];
+    for (action, texts, status, out, err) in rows {
+        let [old, new, kept] = texts;
+        let files = [("old.xml", old), ("new.xml", new), ("kept.csv", kept)];
+        let words = [action, "old.xml", "new.xml", "--retain", "kept.csv"];
+        let left = run_over(alloc, &words, &files, NONE, &mut Silent)?;
+        assert!(rt; left.is(status, out, err), "at {err}");
+    }
+    let named = [
+        "migrate",
+        "old.xml",
+        "new.xml",
+        "--retain",
+        "kept.csv",
+        "--program",
+        "Main",
+    ];
+    let files = [
+        ("old.xml", OLD),
+        ("new.xml", TWO_PROGRAMS),
+        ("kept.csv", ""),
+    ];
+    let left = run_over(alloc, &named, &files, NONE, &mut Silent)?;
+    assert!(rt; left.is(Status::Done, "", ""));
+    Ok(())
+}
+
+#[test]
+fn blames_the_file_of_a_migration_that_fails(rt: HostRuntime) -> Result<(), Fail> {
+    let alloc = rt.alloc();
+    let words = ["migrate", "old.xml", "new.xml", "--retain", "kept.csv"];
+    let files = [
+        ("old.xml", OLD),
+        ("new.xml", WIDER),
+        ("kept.csv", "retain,C,1\n"),
+    ];
+    for (call, line) in [
+        (1, "plcx: cannot read old.xml\n"),
+        (2, "plcx: cannot read old.xml\n"),
+        (3, "plcx: cannot read new.xml\n"),
+        (4, "plcx: cannot read new.xml\n"),
+        (5, "plcx: cannot read kept.csv\n"),
+        (6, "plcx: cannot read kept.csv\n"),
+    ] {
+        let failing = Failing {
+            desk: &[call],
+            ..NONE
+        };
+        let left = run_over(alloc, &words, &files, failing, &mut Silent)?;
+        assert!(rt; left.is(Status::ReadFault, "", line), "at {call}");
+    }
+    let same = ["report", "old.xml", "old.xml", "--retain", "kept.csv"];
+    let left = run_over(alloc, &same, &files, NONE, &mut Silent)?;
+    assert!(rt; left.is(Status::Done, "kept,C,SINT#1\n", ""));
+    Ok(())
+}
