@@ -1,5 +1,5 @@
 -- A migration from its steps: the old version, the new one, and what becomes of the values.
-use Rattle.std.proofs.Common.{◌≡◌, ℕ, List, Option, refl, subst}
+use Rattle.std.proofs.Common.{◌≡◌, ℕ, List, Option, subst}
 use Rattle.std.specs.Prelude.{Result, Ok, Err}
 use Rattle.std.proofs.Math.Path.{fun_ext}
 use Rattle.plcx_state.specs.Layouts.{Laid}
@@ -11,7 +11,7 @@ use Rattle.plcx_traced.specs.Files.{IsLoaded}
 use Rattle.plcx_simulate.specs.Programs.{diagrams_in}
 use Rattle.plcx_migrate.specs.declared.migrating.Form.{Form}
 use Rattle.plcx_command.specs.Answer.{Answer}
-use Rattle.plcx_command.specs.Migrated.{NotMigrated, OldProgram, NewRead, NewBroken, NewProgram, RetainedRead, Line, HasVersion, HasNoVersion, Versions, ComesTo, AnswersMigration, OldVersion}
+use Rattle.plcx_command.specs.Migrated.{NotMigrated, OldProgram, NewRead, NewBroken, NewProgram, RetainedRead, Line, HasVersion, Versions, ComesTo, AnswersMigration, OldVersion}
 use Rattle.plcx_command.specs.Migrated as migrated
 use Rattle.plcx_command.specs.ReplyOf.{answer_of}
 use Rattle.plcx_command.specs.Says.{AfterRead, fault, too_long, whole, Judged, Answers, SaysMigration, long_answer}

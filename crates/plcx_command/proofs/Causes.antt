@@ -12,20 +12,19 @@ use Rattle.plcx_traced.specs.declared.error.RunError.TheVariants as error
 use Rattle.plcx_traced.specs.Programs.{IsMissing}
 use Rattle.plcx_traced.specs.Runs.{AreTold, ComesTo}
 use Rattle.plcx_simulate.specs.Programs.{programs_of}
-use Rattle.plcx_migrate.specs.declared.error.MigrateError.{MigrateError}
 use Rattle.plcx_migrate.specs.declared.error.MigrateError.TheVariants as values
 use Rattle.plcx_migrate.specs.declared.migrating.Form.{Form}
 use Rattle.plcx_migrate.specs.declared.migrating.Form.TheVariants.{Lines, Report}
-use Rattle.plcx_command.specs.Answer.{Answer, output, refusal, broken_line, memory_answer}
+use Rattle.plcx_command.specs.Answer.{Answer, output, refusal, broken_line}
 use Rattle.plcx_command.specs.Causes.{Cause, of_run, of_migration, Stops, Comes, cause_refused, cause_line}
 use Rattle.plcx_command.specs.Compiled.{HasDiagrams}
-use Rattle.plcx_command.specs.Ends.{Ends, Change, Written, Gets, Unchanged, MaySay}
+use Rattle.plcx_command.specs.Ends.{Ends, Change, Written, Gets}
 use Rattle.plcx_command.specs.Headline.{IsDefined, is_to_come, project_file, IsProjectFile, Reads, Never, IsTold, TellsProject, TellsAll, IsFine, IsJudged, IsBroken, RefusesBroken, RefusesFor, IsComplete}
 use Rattle.plcx_command.specs.Migrated as migrated
 use Rattle.plcx_command.specs.Migrated.{NotMigrated, OldProgram, NewRead, NewBroken, NewProgram, RetainedRead, Line, action_of, answer_to_migration, migration_refused, AnswersMigration, Migrates}
 use Rattle.plcx_command.specs.Refused.{status_of}
 use Rattle.plcx_command.specs.Says.{file_of}
-use Rattle.plcx_command.specs.Simulated.{IsSimulated, Simulates, refused_as, answer_to}
+use Rattle.plcx_command.specs.Simulated.{Simulates, answer_to}
 use Rattle.plcx_command.specs.Verdict as verdict
 use Rattle.plcx_command.specs.Verdict.{Verdict, FileVerdict}
 use Rattle.plcx_command.specs.declared.line.ProjectFile.{ProjectFile}
@@ -34,9 +33,9 @@ use Rattle.plcx_command.specs.declared.status.Refused.{Refused}
 use Rattle.plcx_command.specs.declared.status.Refused.TheVariants as why'
 use Rattle.plcx_command.specs.declared.status.Status.{Status}
 use Rattle.plcx_command.specs.declared.status.Status.TheVariants as status
-use Rattle.plcx_command.proofs.Found.{tells-same, unread_to_come, IsFollowed, Found, faulty, unbuilt, unread, breaks, accepts, found, IsCauseOver, Kind, gives, refuses, kind}
+use Rattle.plcx_command.proofs.Found.{tells-same, unread_to_come, IsFollowed, Found, faulty, unbuilt, unread, breaks, accepts, found, IsCauseOver, gives, refuses, kind}
 use Rattle.plcx_command.proofs.Laws.{IsAnswered, answered, found-refusal, accepted-verdict, cause-comes, cause-stops, file_of_action}
-use Rattle.plcx_command.proofs.Migrations.{one_migrated, one_early, IsEarly, migrates_accepted, outcome_there, reads_old, reads_new, reads_retained, whole}
+use Rattle.plcx_command.proofs.Migrations.{one_migrated, one_early, IsEarly, migrates_accepted, outcome_there, reads_old, reads_new, reads_retained}
 use Rattle.plcx_command.proofs.Migrations as migrations
 use Rattle.plcx_command.proofs.Simulations.{calm, missing_alone, one_simulated, quiet-run, run_outcome, simulates-accepted}
 use Rattle.plcx_command.proofs.Statuses.{status_for, IsRefusedBy, refused, output-whole, memory-whole}

@@ -1,17 +1,16 @@
 -- What each status was written for.
 use Rattle.std.proofs.Common.{◌≡◌, ◌≢◌, ◌↔◌, ◌∙◌, ℕ, Bool, List, [], true, false, true≢false, refl, sym, ap, subst, ◌⊎◌, inl, inr, Option, Some, None}
-use Rattle.std.specs.Prelude.{Ok, Err, unwrap_or}
+use Rattle.std.specs.Prelude.{Ok, unwrap_or}
 use Rattle.plcx_io.specs.Told.{Tells}
 use Rattle.plcx_meaning.specs.Evaluate.{Heard}
 use Rattle.plcx_words.specs.Command.{Command, Run, Migration, check, compile, simulate, run, bench, cycle, migrate, report, cover}
 use Rattle.plcx_model.specs.declared.broken.Broken as model
 use Rattle.plcx_state.specs.declared.layout.Leaf.{Leaf}
-use Rattle.plcx_traced.specs.declared.error.RunError.{RunError}
 use Rattle.plcx_traced.specs.declared.error.RunError.TheVariants as error
 use Rattle.plcx_traced.specs.Files.{WhyNotBegun}
 use Rattle.plcx_migrate.specs.declared.migrating.Form.{Form}
 use Rattle.plcx_migrate.specs.declared.migrating.Form.TheVariants.{Lines, Report}
-use Rattle.plcx_command.specs.Answer.{Answer, output, refusal, ok_line, ok_answer, usage_line, usage_answer, read_answer, read_line, broken_line, broken_answer, memory_answer, memory_line, not_built_line, not_built_answer, write_line}
+use Rattle.plcx_command.specs.Answer.{Answer, output, refusal, ok_line, ok_answer, usage_line, usage_answer, read_answer, read_line, broken_answer, memory_answer, memory_line, not_built_line, not_built_answer, write_line}
 use Rattle.plcx_command.specs.Causes.{Cause, of_run, of_migration, Stops, Comes, cause_refused, cause_line}
 use Rattle.plcx_command.specs.Ends.{Ends, Change, Written, Gets, GetsFront, Unchanged, MaySay}
 use Rattle.plcx_command.specs.Headline.{IsDefined, project_file, TellsProject, is_to_come, IsReached, first, later, IsRefusal}

@@ -1,8 +1,7 @@
 -- What a simulation was answered for.
-use Rattle.std.proofs.Common.{◌≡◌, ◌≢◌, ◌↔◌, ◌∙◌, ℕ, List, true, refl, sym, ap, subst, ◌⊎◌, inl, inr, Option, Some, None}
+use Rattle.std.proofs.Common.{◌≡◌, ◌≢◌, ◌↔◌, ◌∙◌, ℕ, List, refl, sym, ap, subst, ◌⊎◌, inl, inr, Option, Some, None}
 use Rattle.std.specs.Prelude.{Result, Ok, Err}
 use Rattle.plcx_io.specs.Counts.{Rose}
-use Rattle.plcx_io.specs.Told.{Tells}
 use Rattle.plcx_meaning.specs.Diagram.{Project}
 use Rattle.plcx_meaning.specs.Evaluate.{Heard}
 use Rattle.plcx_words.specs.Command.{Command, Run, check, compile, simulate, run, bench, cycle, migrate, report, cover}
@@ -13,22 +12,18 @@ use Rattle.plcx_traced.specs.Files.{WhyNotBegun}
 use Rattle.plcx_traced.specs.Programs.{IsMissing}
 use Rattle.plcx_traced.specs.Runs.{AreTold, ComesTo}
 use Rattle.plcx_simulate.specs.Programs.{programs_of}
-use Rattle.plcx_command.specs.Answer.{Answer, output, refusal, memory_answer}
+use Rattle.plcx_command.specs.Answer.{Answer, output, memory_answer}
 use Rattle.plcx_command.specs.Compiled.{HasDiagrams}
-use Rattle.plcx_command.specs.Ends.{Ends, Change, Written, Gets, Unchanged, MaySay}
-use Rattle.plcx_command.specs.Says.{file_of}
+use Rattle.plcx_command.specs.Ends.{Ends, Change, Gets, Unchanged, MaySay}
 use Rattle.plcx_command.specs.Headline.{IsDefined, project_file, Reads, Never, IsTold, TellsAll, SimulatesExactly}
-use Rattle.plcx_command.specs.Refused.{status_of}
-use Rattle.plcx_command.specs.Simulated.{IsSimulated, Simulates, AnswersRun, refused_as, error_line, answer_to}
+use Rattle.plcx_command.specs.Simulated.{IsSimulated, Simulates, AnswersRun, answer_to}
 use Rattle.plcx_command.specs.Verdict as verdict
 use Rattle.plcx_command.specs.Verdict.{Verdict, FileVerdict, Within, Passed}
-use Rattle.plcx_command.specs.declared.status.Refused.{Refused}
-use Rattle.plcx_command.specs.declared.status.Refused.TheVariants as why'
 use Rattle.plcx_command.specs.declared.status.Status.{Status}
 use Rattle.plcx_command.specs.declared.status.Status.TheVariants as status
-use Rattle.plcx_command.proofs.Found.{tells-same, unread_to_come, IsFollowed, Found, faulty, unbuilt, unread, breaks, accepts, found, Kind, gives, refuses, kind}
-use Rattle.plcx_command.proofs.Statuses.{status_for, done, IsRefusedBy, refused, output-whole, memory-whole}
-use Rattle.plcx_command.proofs.Laws.{IsAnswered, answered, found-refusal, accepted-verdict, ByVerdict, passes, fails, by_verdict, done-passes}
+use Rattle.plcx_command.proofs.Found.{tells-same, unread_to_come, IsFollowed, Kind}
+use Rattle.plcx_command.proofs.Statuses.{status_for, done}
+use Rattle.plcx_command.proofs.Laws.{IsAnswered, answered, accepted-verdict, ByVerdict, passes, fails, by_verdict, done-passes}
 
 -- a trace is answered to a run alone that leaves it
 traced-outcome : (r : Run) (x : Result (List ℕ) RunError) (text : List ℕ) → output text ≡ answer_to r x → x ≡ Ok text

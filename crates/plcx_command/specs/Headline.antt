@@ -3,7 +3,6 @@ use Rattle.std.specs.Prelude.{◌≡◌, ◌↔◌, ◌⊎◌, ℕ, List, [], Bo
 use Rattle.std.specs.Option.{option_and_then}
 use Rattle.plcx_io.specs.Counts.{Rose}
 use Rattle.plcx_meaning.specs.Evaluate.{Heard}
-use Rattle.plcx_traced.specs.declared.error.RunError.{RunError}
 use Rattle.plcx_traced.specs.declared.error.RunError.TheVariants as error
 use Rattle.plcx_command.specs.Answer.{ok_line, read_line, broken_line, usage_line, memory_line, not_built_line, write_line, Answer, refusal, output}
 use Rattle.plcx_words.specs.Command.{Command, Run, Migration, check, compile, simulate, run, bench, cycle, migrate, report, cover}

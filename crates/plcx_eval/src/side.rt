@@ -18,12 +18,11 @@ use crate::preparing::{Frame, frame_of, outcome_of, put_inputs, state_of};
 use plcx_check::Checked;
 use plcx_fits::checked_fits;
 use plcx_opening::{drawings, layout_at, program_place};
-use plcx_packed::{Packed, scan};
 use plcx_program::prepared;
 use plcx_runnable::{bodies_are_there, prepared_can_run, programs_stand};
 use plcx_scan::{Input, OpenError, Outcome, Side};
 use plcx_state::{Layout, Retained, Store, print_retained};
-use plcx_steps::{Silent, State, Watch};
+use plcx_steps::{Program, Silent, State, Watch, scan};
 use plcx_stored::{
     inputs_are_stored, one_agreement, scans_are_stored, store_is_typed, store_opens,
     store_restarts, store_shows,
@@ -37,7 +36,7 @@ pub struct DiagramSide<'a> {
     checked: &'a Checked,
     place: u32,
     layout: Layout,
-    program: Packed,
+    program: Program,
     state: State,
     frame: Frame,
     halted: bool,
@@ -83,12 +82,11 @@ impl<'a> DiagramSide<'a> {
         let store = Store::open(alloc, &layout, retained)?;
         let state = state_of(alloc, store)?;
         let frame = frame_of(alloc, &program, place)?;
-        let packed = Packed::new(alloc, program)?;
         Ok(DiagramSide {
             checked,
             place,
             layout,
-            program: packed,
+            program,
             state,
             frame,
             halted: false,

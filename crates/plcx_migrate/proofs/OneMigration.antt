@@ -5,12 +5,11 @@ use Rattle.plcx_types.specs.Value.{Value}
 use Rattle.plcx_state.specs.Layouts.{Laid, IsLaid}
 use Rattle.plcx_state.specs.Tables.{IsTold}
 use Rattle.plcx_traced.proofs.OneFile.{told_kept, told_line, told_no_line}
-use Rattle.plcx_keep.specs.declared.carry.Carry.{Carry}
 use Rattle.plcx_keep.specs.Carries.{carry_of, value_at}
 use Rattle.plcx_keep.specs.Texts.{state_lines}
 use Rattle.plcx_keep.proofs.OneState.{one_state}
 use Rattle.plcx_keep.proofs.Rows.{rows_are}
-use Rattle.plcx_migrate.specs.Migrations.{AreLinesOf, IsWritten, IsMigrated, ComesTo}
+use Rattle.plcx_migrate.specs.Migrations.{IsWritten, IsMigrated, ComesTo}
 use Rattle.plcx_migrate.specs.declared.migrating.Form.{Form}
 use Rattle.plcx_migrate.specs.declared.migrating.Form.TheVariants.{Lines, Report}
 use Rattle.plcx_migrate.specs.declared.error.MigrateError.{MigrateError}

@@ -1,4 +1,4 @@
-use Rattle.std.proofs.Common.{Ok, Err, refl, List, ℕ}
+use Rattle.std.proofs.Common.{Ok, Err, refl}
 use Rattle.std.proofs.lemmas.Result.{IfOk-weaker}
 use Rattle.plcx_words.specs.Says.{said_by_migration}
 use Rattle.plcx_command.specs.Migrated.{Line, RetainedRead}

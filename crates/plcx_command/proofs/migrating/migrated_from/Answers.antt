@@ -2,7 +2,6 @@ use Rattle.std.proofs.Common.{ℕ, List, sym}
 use Rattle.std.proofs.lemmas.Result.{IfOk-weaker}
 use Rattle.plcx_io.specs.Counts.{Rose}
 use Rattle.plcx_words.specs.Says.{said_by_migration}
-use Rattle.plcx_traced.specs.Files.{IsLoaded}
 use Rattle.plcx_command.specs.ReplyOf.{answer_of}
 use Rattle.plcx_command.proofs.Takes.{rose_later}
 use Rattle.plcx_command.proofs.Carried.{loaded_same, migration_later, new_refused}

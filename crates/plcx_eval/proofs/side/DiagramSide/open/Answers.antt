@@ -8,9 +8,7 @@ use Rattle.plcx_state.specs.Stores.{Stored, IsStoreOf}
 use Rattle.plcx_drawn.specs.Pous.{shown_pou}
 use Rattle.plcx_types.specs.Lists.{Each}
 use Rattle.plcx_view.specs.Diagrams.{diagrams_of}
-use Rattle.plcx_steps.specs.declared.program.Program.{Program}
 use Rattle.plcx_numbered.specs.Programs.{IsProgramOf}
-use Rattle.plcx_eval.specs.Ready.{IsReady}
 use Rattle.plcx_eval.proofs.Literals.{PouHasLiterals, project_literals, literals_prop}
 use Rattle.plcx_eval.proofs.Opened.{drawn_same, place_low, is_there, kept_for, ready, opens_for}
 use Rattle.plcx_eval.proofs.side.DiagramSide.open.Goals as goal
@@ -54,9 +52,8 @@ invariant_of-result c =
     let project = diagrams_of a.project a.links a.types a.plan in
     let same = drawn_same a.project.pous c.pous.result.now c.in_ok-drawings.drawings.items c.deref-2.result.now project (c.pous.ensures ∙ ap (λ (q : Project). q.pous) c.project.ensures) c.deref-2.ensures.value c.in_ok-drawings.ensures in
     record {
-      ready = subst (λ (p : Program). IsReady project c.in-Some.place c.in_ok-layout.layout p c.in_ok-state.state c.in_ok-frame.frame) (sym c.in_ok-packed.ensures)
-          (ready project c.args.program.now c.in-Some.place c.in-Some.ensures c.in_ok-layout.layout c.in_ok-program.program c.in_ok-state.state c.in_ok-frame.frame c.in_ok-layout.ensures
-          (subst (λ (q : diagram.Project). IsProgramOf q c.in_ok-program.program) same c.in_ok-program.ensures) (subst (IsStoreOf c.in_ok-layout.layout) (sym c.in_ok-state.ensures.store) c.in_ok-store.ensures.store) c.in_ok-state.ensures.inputs c.in_ok-frame.ensures);
+      ready = ready project c.args.program.now c.in-Some.place c.in-Some.ensures c.in_ok-layout.layout c.in_ok-program.program c.in_ok-state.state c.in_ok-frame.frame c.in_ok-layout.ensures
+          (subst (λ (q : diagram.Project). IsProgramOf q c.in_ok-program.program) same c.in_ok-program.ensures) (subst (IsStoreOf c.in_ok-layout.layout) (sym c.in_ok-state.ensures.store) c.in_ok-store.ensures.store) c.in_ok-state.ensures.inputs c.in_ok-frame.ensures;
     }
 
 pub returns-clause-opened : goal.returns-clause-opened
