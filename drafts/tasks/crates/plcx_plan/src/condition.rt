@@ -1,0 +1,36 @@
+//! The conditions on the tasks of a file's resource.
+
+/// What is wrong with the tasks of a file.
+#[derive(Clone, Copy, Debug, PartialEq, Eq)]
+pub enum TaskKind {
+    /// There is not one resource, or there are no instances, or too many tasks or instances.
+    Count,
+    /// A task has no name, priority or interval of its form, or the name of an earlier one.
+    Task,
+    /// An instance has no name, or that of an earlier one.
+    Instance,
+    /// An instance is of no program of the file.
+    Program,
+}
+
+/// What an element is among the tasks.
+#[derive(Clone, Copy, Debug, PartialEq, Eq)]
+pub enum Role {
+    Resource,
+    Task,
+    Instance,
+    Other,
+}
+
+/// A condition, in the order in which they are tested at one element.
+#[derive(Clone, Copy, Debug, PartialEq, Eq)]
+pub enum Condition {
+    SomeResource,
+    OneResource,
+    SomeInstance,
+    FewTasks,
+    GoodTask,
+    FewInstances,
+    GoodInstance,
+    KnownProgram,
+}
