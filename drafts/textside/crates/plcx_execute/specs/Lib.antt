@@ -1,3 +1,0 @@
-pub mod Programs
--- serves proofs alone
-pub mod Choosing
