@@ -9,8 +9,10 @@ prints the events of that seed for the first program of a file that breaks no ru
 import csv
 import io
 import random
+import re
 import sys
 sys.dont_write_bytecode = True
+import conditions
 import scans
 from rules import RANGE, up
 
@@ -154,6 +156,25 @@ class Maker:
             lines.insert(r.randint(0, len(lines)), r.choice(lines + ['', 'retain,Nowhere,TRUE', 'retain,X', 'keep,X,1']))
         end = r.choice(['\n', '\n', '\r\n'])
         return ''.join(line + end for line in lines).encode()
+
+    def spoilt_text(self, text):
+        """A text in which one or two names or numbers are others, so that it is read but often not ready to run."""
+        r = self.r
+        for _ in range(r.choice([1, 1, 2])):
+            words = [m.span() for m in re.finditer(r"[A-Za-z]+#[-+0-9A-Za-z_.#]+|[A-Za-z_]\w*", text) if '#' in m.group() or up(m.group()) not in conditions.KEYWORDS]
+            numbers = [(a, b) for a, b in words if '#' in text[a:b]]
+            types = [(a, b) for a, b in words if up(text[a:b]) in RANGE]
+            names = [(a, b) for a, b in words if (a, b) not in numbers]
+            a, b = r.choice(r.choice([some for some in (numbers, types, names) if some]))
+            if (a, b) in numbers:
+                other = r.choice(['INT#1', 'BOOL#1', 'BOOL#2', 'SINT#128', 'DINT#7', 'T#5ms', 'WORD#16#FFFF', 'TIME#-1s', 'UINT#65536'])
+            elif (a, b) in types:
+                other = r.choice(sorted(RANGE) + ['TON', 'REAL'])
+            else:
+                near = [text[c:d] for c, d in names if up(text[c:d]) not in RANGE and abs(c - a) < 200]
+                other = r.choice([r.choice(near), r.choice(near), r.choice(near), 'Nowhere', 'ADD', 'ABS'])
+            text = text[:a] + other + text[b:]
+        return text
 
     def turns(self):
         """A budget of turns, or none that is named."""

@@ -3,18 +3,24 @@ use Rattle.std.proofs.Common.{◌≡◌, ◌≢◌, ◌≤◌, ◌∙◌, ℕ, L
 use Rattle.std.specs.Prelude.{Result, Ok, Err}
 use Rattle.plcx_io.specs.Told.{Tells}
 use Rattle.plcx_types.specs.Limits.{max_file_bytes}
-use Rattle.plcx_words.specs.Command.{Command, Run, Migration, check, compile, simulate, run, bench, cycle, migrate, report, cover}
+use Rattle.plcx_words.specs.Command.{Command, Run, TaskRun, Migration, check, compile, simulate, run, bench, cycle, migrate, report, cover}
 use Rattle.plcx_model.specs.declared.broken.Broken as model
 use Rattle.plcx_model.specs.declared.project.Project.{Project}
 use Rattle.plcx_traced.specs.declared.error.RunError.{RunError}
+use Rattle.plcx_text_run.specs.TextRuns as texts
+use Rattle.plcx_text_run.specs.declared.running.TextRunError.{TextRunError}
+use Rattle.plcx_text_run.specs.declared.running.TextRunError.TheVariants as text_error
+use Rattle.plcx_cycle.specs.declared.error.CycleError.{CycleError}
 use Rattle.plcx_migrate.specs.declared.migrating.Form.{Form}
 use Rattle.plcx_migrate.specs.declared.migrating.Form.TheVariants.{Lines, Report}
 use Rattle.plcx_command.specs.Answer.{Answer, output, refusal, usage_answer, not_built_answer, read_answer, broken_answer}
-use Rattle.plcx_command.specs.Causes.{Cause, of_run, of_migration, cause_refused, cause_line}
+use Rattle.plcx_command.specs.Causes.{Cause, of_run, of_text, of_cycle, of_migration, cause_refused, cause_line}
+use Rattle.plcx_command.specs.Cycled.{IsCycled, answer_to_cycle}
 use Rattle.plcx_command.specs.Headline.{project_file, is_to_come}
 use Rattle.plcx_command.specs.Migrated.{NotMigrated, ComesTo, action_of, answer_to_migration}
+use Rattle.plcx_command.specs.TextRun.{answer_to_text, text_refused, text_error_line}
 use Rattle.plcx_command.specs.Says.{Says, SaysOver, AfterRead, fault, too_long, whole, file_of, Follows, Answers}
-use Rattle.plcx_command.specs.Simulated.{IsSimulated, answer_to}
+use Rattle.plcx_command.specs.Simulated.{RunForm, Trace, Coverage, run_action, IsSimulated, answer_to}
 use Rattle.plcx_command.specs.Verdict as verdict
 use Rattle.plcx_command.specs.Verdict.{Verdict, IsVerdict, FileVerdict, Keeps, TooLong, Within, Passed, Refused, at_byte}
 use Rattle.plcx_command.specs.declared.line.ProjectFile.TheVariants.{First}
@@ -36,17 +42,6 @@ unread_to_come (Some (migrate m)) name t e = cc
 unread_to_come (Some (report m)) name t e = cc
 unread_to_come (Some (cover r)) name t e = cc
 
-to_come-unread : (c : Command) → file_of c ≡ None → is_to_come (Some c) ≡ true
-to_come-unread (check n) e = absurd (cc)
-to_come-unread (compile n) e = absurd (cc)
-to_come-unread (simulate r) e = absurd (cc)
-to_come-unread (run r) e = refl
-to_come-unread (bench n) e = refl
-to_come-unread (cycle t) e = refl
-to_come-unread (migrate m) e = absurd (cc)
-to_come-unread (report m) e = absurd (cc)
-to_come-unread (cover r) e = refl
-
 module _ (told : List ℕ → Option (List ℕ)) (rose : List ℕ → Type 0) where
   -- a file that is accepted, and what the action answers to it
   pub record IsFollowed (c : Command) (name : List ℕ) (a : Answer) : Type 0 where
@@ -63,25 +58,41 @@ module _ (told : List ℕ → Option (List ℕ)) (rose : List ℕ → Type 0) wh
     unread : (name : List ℕ) → project_file command ≡ Some name → rose name → a ≡ read_answer name → Found command a
     breaks : (b : model.Broken) (name : List ℕ) → project_file command ≡ Some name
         → ((bytes : List ℕ) → told name ≡ Some bytes → FileVerdict bytes (verdict.Broken b)) → a ≡ broken_answer First b → Found command a
+    traced : (r : Run) → command ≡ Some (run r) → (text : List ℕ) → texts.ComesTo told rose r (Ok text) → a ≡ output text → Found command a
+    stopped : (r : Run) → command ≡ Some (run r) → (e : TextRunError) → texts.ComesTo told rose r (Err e) → e ≢ text_error.NoMemory
+        → a ≡ refusal (text_refused e) (text_error_line r e) → Found command a
     accepts : (c : Command) → command ≡ Some c → (name : List ℕ) → project_file command ≡ Some name → IsFollowed c name a → Found command a
 
-  found-over : (c : Command) (a : Answer) (f : Option (List ℕ)) → file_of c ≡ f → SaysOver told rose f c a → Found (Some c) a
-  found-over c a None e h = unbuilt (to_come-unread c e) h
-  found-over c a (Some name) e (fault r h) = unread name e r h
-  found-over c a (Some name) e (too_long l h) = breaks (at_byte 7 max_file_bytes) name e (λ bytes k. TooLong (rw k at l)) h
-  found-over c a (Some name) e (whole bytes short tells j) = by j.verdict j.judged j.answers
+  found-over : (c : Command) (name : List ℕ) (a : Answer) → file_of c ≡ Some name → SaysOver told rose name c a → Found (Some c) a
+  found-over c name a e (fault r h) = unread name e r h
+  found-over c name a e (too_long l h) = breaks (at_byte 7 max_file_bytes) name e (λ bytes k. TooLong (rw k at l)) h
+  found-over c name a e (whole bytes short tells j) = by j.verdict j.judged j.answers
     where
       by : (v : Verdict) → IsVerdict bytes v → Answers First (Follows told rose c bytes) v a → Found (Some c) a
       by _ (Passed project keeps) n = accepts c refl name e (record { bytes = bytes; short = short; tells = tells; project = project; keeps = keeps; follows = n })
       by _ (Refused {b} h) n = breaks b name e (λ held k. subst (λ (x : List ℕ). FileVerdict x (verdict.Broken b)) (tells-same (told name) bytes held k tells) (Within short (Refused h))) n
 
+  found-text : (r : Run) (a : Answer) (x : Result (List ℕ) TextRunError) → texts.ComesTo told rose r x → x ≢ Err text_error.NoMemory → a ≡ answer_to_text r x → Found (Some (run r)) a
+  found-text r a (Ok text) h there e = traced r refl text h e
+  found-text r a (Err f) h there e = stopped r refl f h (λ same. there (ap Err same)) e
+
   pub found : (command : Option Command) (a : Answer) → Says told rose command a → Found command a
   found None a e = faulty refl e
-  found (Some c) a h = found-over c a (file_of c) refl h
+  found (Some (check name)) a h = found-over (check name) name a refl h
+  found (Some (compile name)) a h = found-over (compile name) name a refl h
+  found (Some (simulate r)) a h = found-over (simulate r) r.file a refl h
+  found (Some (run r)) a h = found-text r a h.outcome h.comes h.there h.answer
+  found (Some (bench n)) a h = unbuilt refl h
+  found (Some (cycle t)) a h = found-over (cycle t) t.file a refl h
+  found (Some (migrate m)) a h = found-over (migrate m) m.old a refl h
+  found (Some (report m)) a h = found-over (report m) m.old a refl h
+  found (Some (cover r)) a h = found-over (cover r) r.file a refl h
 
   -- the cause to which the run or the migration of an accepted file comes
   abbrev pub IsCauseOver : Command → List ℕ → Cause → Type 0
-  IsCauseOver c bytes (of_run r e) = (c ≡ simulate r) × IsSimulated told rose r bytes (Err e)
+  IsCauseOver c bytes (of_run form r e) = (c ≡ run_action form r) × IsSimulated told rose form r bytes (Err e)
+  IsCauseOver c bytes (of_text r e) = ⊥
+  IsCauseOver c bytes (of_cycle t e) = (c ≡ cycle t) × IsCycled told rose t bytes (Err e)
   IsCauseOver c bytes (of_migration form m e) = (c ≡ action_of form m) × ComesTo told rose form m bytes (Err e)
 
   -- what an action answers to a file that is accepted: an output, or the refusal for a cause
@@ -89,9 +100,14 @@ module _ (told : List ℕ → Option (List ℕ)) (rose : List ℕ → Type 0) wh
     gives : (text : List ℕ) → a ≡ output text → Kind c bytes a
     refuses : (cause : Cause) → IsCauseOver c bytes cause → a ≡ refusal (cause_refused cause) (cause_line cause) → Kind c bytes a
 
-  simulated-kind : (r : Run) (bytes : List ℕ) (a : Answer) (x : Result (List ℕ) RunError) → IsSimulated told rose r bytes x → a ≡ answer_to r x → Kind (simulate r) bytes a
-  simulated-kind r bytes a (Ok text) s e = gives text e
-  simulated-kind r bytes a (Err f) s e = refuses (of_run r f) (refl, s) e
+  simulated-kind : (form : RunForm) (r : Run) (bytes : List ℕ) (a : Answer) (x : Result (List ℕ) RunError) → IsSimulated told rose form r bytes x → a ≡ answer_to r x
+      → Kind (run_action form r) bytes a
+  simulated-kind form r bytes a (Ok text) s e = gives text e
+  simulated-kind form r bytes a (Err f) s e = refuses (of_run form r f) (refl, s) e
+
+  cycled-kind : (t : TaskRun) (bytes : List ℕ) (a : Answer) (x : Result (List ℕ) CycleError) → IsCycled told rose t bytes x → a ≡ answer_to_cycle t x → Kind (cycle t) bytes a
+  cycled-kind t bytes a (Ok text) h e = gives text e
+  cycled-kind t bytes a (Err f) h e = refuses (of_cycle t f) (refl, h) e
 
   migrated-kind : (form : Form) (m : Migration) (bytes : List ℕ) (a : Answer) (x : Result (List ℕ) NotMigrated) → ComesTo told rose form m bytes x → a ≡ answer_to_migration m x
       → Kind (action_of form m) bytes a
@@ -101,10 +117,10 @@ module _ (told : List ℕ → Option (List ℕ)) (rose : List ℕ → Type 0) wh
   pub kind : (c : Command) (bytes : List ℕ) (a : Answer) → Follows told rose c bytes a → Kind c bytes a
   kind (check name) bytes a h = gives _ h
   kind (compile name) bytes a h = gives h.text h.answer
-  kind (simulate r) bytes a h = simulated-kind r bytes a h.outcome h.simulated h.answer
+  kind (simulate r) bytes a h = simulated-kind Trace r bytes a h.outcome h.simulated h.answer
   kind (run r) bytes a h = absurd h
   kind (bench n) bytes a h = absurd h
-  kind (cycle t) bytes a h = absurd h
+  kind (cycle t) bytes a h = cycled-kind t bytes a h.outcome h.cycled h.answer
   kind (migrate m) bytes a h = migrated-kind Lines m bytes a h.outcome h.comes h.answer
   kind (report m) bytes a h = migrated-kind Report m bytes a h.outcome h.comes h.answer
-  kind (cover r) bytes a h = absurd h
+  kind (cover r) bytes a h = simulated-kind Coverage r bytes a h.outcome h.simulated h.answer

@@ -1,5 +1,5 @@
 -- The verdict on a file, pass by pass.
-use Rattle.std.proofs.Common.{◌≡◌, ℕ, List, None, subst}
+use Rattle.std.proofs.Common.{◌≡◌, ℕ, List, None, refl, sym, subst}
 use Rattle.plcx_xml.specs.Faults.{Fails}
 use Rattle.plcx_xml.specs.StandsForTree.{IsTreeOf}
 use Rattle.plcx_xml.specs.declared.error.XmlError.{XmlError}
@@ -13,7 +13,7 @@ use Rattle.plcx_model.specs.Sound.{Sound}
 use Rattle.plcx_profile.specs.Profile.{IsElement, ProfileVerdict, StandsForProject, StandsForRoot, RefusesRoot, project_in}
 use Rattle.plcx_profile.specs.declared.error.ProfileError.TheVariants as error
 use Rattle.plcx_check.specs.declared.checked.Checked.{Checked}
-use Rattle.plcx_command.specs.JudgementOf.{IsChecked, IsJudgement, IsFault, IsJudgementOfProject, IsJudgementOfElement, OfProfile, OfProject, IsJudgementOfTree}
+use Rattle.plcx_command.specs.JudgementOf.{IsChecked, IsJudgement, IsFault, IsJudgementOfProject, IsJudgementOfElement, OfProfile, OfProject, IsJudgementOfTree, HasTree}
 use Rattle.plcx_command.specs.Verdict.{Breaks, Keeps, InTree, InProfile, InProject}
 use Rattle.plcx_command.specs.declared.judging.Judgement.{Judgement}
 use Rattle.plcx_command.specs.declared.judging.Judgement.TheVariants.{Accepted, Broken}
@@ -49,3 +49,14 @@ judged bytes tree root j is t h = judged-element bytes root j t (rw (is, node.ou
 pub faulted : (bytes : List ℕ) (e : XmlError) (j : Judgement) → Fails bytes e → IsFault e j → IsJudgement bytes j
 faulted bytes e (Accepted c) f h = absurd h
 faulted bytes e (Broken b) f h = InTree e f h
+
+-- the root of a tree that is accepted
+rooted : (bytes : List ℕ) (root : Element) (c : Checked) → IsTreeOf bytes root → IsJudgementOfElement root (Accepted c) → HasTree bytes (Node-F.Element root) c
+rooted bytes root c t (OfProject none h) =
+    record { keeps = record { root = root; tree = t; profile = none; stands = h.0; checks = h.1.verdict }; root_is = refl; checked = h.1 }
+
+pub has_tree : (bytes : List ℕ) (tree : Node) (root : Element) (c : Checked) → tree ≡ node.Element root → IsTreeOf bytes root → IsJudgementOfTree (out-Node tree) (Accepted c)
+    → HasTree bytes (out-Node tree) c
+has_tree bytes tree root c is t h =
+    subst (λ (n : Node). HasTree bytes (out-Node n) c) (sym is)
+    (subst (λ (n : Node-F Node Element). HasTree bytes n c) (sym (node.outs-Element root)) (rooted bytes root c t (rw (is, node.outs-Element root) at h)))

@@ -1,6 +1,6 @@
 -- What each status was written for.
 use Rattle.std.proofs.Common.{◌≡◌, ◌≢◌, ◌↔◌, ◌∙◌, ℕ, Bool, List, [], true, false, true≢false, refl, sym, ap, subst, ◌⊎◌, inl, inr, Option, Some, None}
-use Rattle.std.specs.Prelude.{Ok, unwrap_or}
+use Rattle.std.specs.Prelude.{Ok, Err, unwrap_or}
 use Rattle.plcx_io.specs.Told.{Tells}
 use Rattle.plcx_meaning.specs.Evaluate.{Heard}
 use Rattle.plcx_words.specs.Command.{Command, Run, Migration, check, compile, simulate, run, bench, cycle, migrate, report, cover}
@@ -8,17 +8,23 @@ use Rattle.plcx_model.specs.declared.broken.Broken as model
 use Rattle.plcx_state.specs.declared.layout.Leaf.{Leaf}
 use Rattle.plcx_traced.specs.declared.error.RunError.TheVariants as error
 use Rattle.plcx_traced.specs.Files.{WhyNotBegun}
+use Rattle.plcx_text_run.specs.TextRuns as texts
+use Rattle.plcx_text_run.specs.declared.running.TextRunError.{TextRunError}
+use Rattle.plcx_text_run.specs.declared.running.TextRunError.TheVariants as text_error
+use Rattle.plcx_cycle.specs.declared.error.CycleError.TheVariants as cycle_error
 use Rattle.plcx_migrate.specs.declared.migrating.Form.{Form}
 use Rattle.plcx_migrate.specs.declared.migrating.Form.TheVariants.{Lines, Report}
 use Rattle.plcx_command.specs.Answer.{Answer, output, refusal, ok_line, ok_answer, usage_line, usage_answer, read_answer, read_line, broken_answer, memory_answer, memory_line, not_built_line, not_built_answer, write_line}
-use Rattle.plcx_command.specs.Causes.{Cause, of_run, of_migration, Stops, Comes, cause_refused, cause_line}
+use Rattle.plcx_command.specs.Causes.{Cause, of_run, of_text, of_cycle, of_migration, Stops, Comes, cause_refused, cause_line}
 use Rattle.plcx_command.specs.Ends.{Ends, Change, Written, Gets, GetsFront, Unchanged, MaySay}
-use Rattle.plcx_command.specs.Headline.{IsDefined, project_file, TellsProject, is_to_come, IsReached, first, later, IsRefusal}
+use Rattle.plcx_command.specs.Headline.{IsDefined, project_file, TellsSources, is_to_come, IsReached, first, later, IsRefusal}
 use Rattle.plcx_command.specs.Headline.{CompilesExactly, ChecksExactly, RefusesUsage, RefusesNotBuilt, BlamesReads, BlamesWrites, TellsMemory, IsRefusing, WatchesExactly}
 use Rattle.plcx_command.specs.Hears.{Hears, HearsRun, HearsRefused}
 use Rattle.plcx_command.specs.Migrated.{action_of, OldProgram, NewRead, NewBroken, NewProgram, RetainedRead, Line}
 use Rattle.plcx_command.specs.Refused.{status_of}
 use Rattle.plcx_command.specs.Says.{file_of}
+use Rattle.plcx_command.specs.Simulated.{RunForm, run_action}
+use Rattle.plcx_command.specs.TextRun.{text_refused, text_error_line}
 use Rattle.plcx_command.specs.Verdict as verdict
 use Rattle.plcx_command.specs.Verdict.{Verdict, FileVerdict, Within, Passed}
 use Rattle.plcx_command.specs.Compiled.{IsCompiled}
@@ -27,7 +33,8 @@ use Rattle.plcx_command.specs.declared.status.Refused.{Refused}
 use Rattle.plcx_command.specs.declared.status.Refused.TheVariants as why'
 use Rattle.plcx_command.specs.declared.status.Status.{Status}
 use Rattle.plcx_command.specs.declared.status.Status.TheVariants as status
-use Rattle.plcx_command.proofs.Found.{tells-same, unread_to_come, IsFollowed, Found, faulty, unbuilt, unread, breaks, accepts, found, IsCauseOver, Kind, gives, refuses, kind}
+use Rattle.plcx_command.proofs.Forms.{file_of_run}
+use Rattle.plcx_command.proofs.Found.{tells-same, unread_to_come, IsFollowed, Found, faulty, unbuilt, unread, breaks, traced, stopped, accepts, found, IsCauseOver, Kind, gives, refuses, kind}
 use Rattle.plcx_command.proofs.Statuses.{status_for, no_reason, defined-status, done, IsRefusedBy, refused}
 
 -- what a run or a migration may be refused for
@@ -37,16 +44,31 @@ is_for_cause why'.NotBuilt = false
 is_for_cause why'.Broken = true
 is_for_cause why'.ReadFault = true
 is_for_cause why'.NoMemory = true
+is_for_cause why'.TextBroken = true
 is_for_cause why'.EventsBroken = true
 is_for_cause why'.NoProgram = true
+is_for_cause why'.TasksBroken = true
 
 refused_for : (c : Cause) → is_for_cause (cause_refused c) ≡ true
-refused_for (of_run r (error.NoProgram n)) = refl
-refused_for (of_run r error.RetainedRead) = refl
-refused_for (of_run r (error.Line n)) = refl
-refused_for (of_run r error.EventsRead) = refl
-refused_for (of_run r (error.Row n)) = refl
-refused_for (of_run r error.NoMemory) = refl
+refused_for (of_run form r (error.NoProgram n)) = refl
+refused_for (of_run form r error.RetainedRead) = refl
+refused_for (of_run form r (error.Line n)) = refl
+refused_for (of_run form r error.EventsRead) = refl
+refused_for (of_run form r (error.Row n)) = refl
+refused_for (of_run form r error.NoMemory) = refl
+refused_for (of_text r text_error.TextRead) = refl
+refused_for (of_text r (text_error.TextBroken b)) = refl
+refused_for (of_text r (text_error.NotRun (error.NoProgram n))) = refl
+refused_for (of_text r (text_error.NotRun error.RetainedRead)) = refl
+refused_for (of_text r (text_error.NotRun (error.Line n))) = refl
+refused_for (of_text r (text_error.NotRun error.EventsRead)) = refl
+refused_for (of_text r (text_error.NotRun (error.Row n))) = refl
+refused_for (of_text r (text_error.NotRun error.NoMemory)) = refl
+refused_for (of_text r text_error.NoMemory) = refl
+refused_for (of_cycle t (cycle_error.Tasks kind at)) = refl
+refused_for (of_cycle t cycle_error.TicksRead) = refl
+refused_for (of_cycle t (cycle_error.Row n)) = refl
+refused_for (of_cycle t cycle_error.NoMemory) = refl
 refused_for (of_migration form m (OldProgram n)) = refl
 refused_for (of_migration form m NewRead) = refl
 refused_for (of_migration form m (NewBroken b)) = refl
@@ -61,6 +83,13 @@ not_for c why none e = true≢false (sym (refused_for c) ∙ ap is_for_cause e �
 pub file_of_action : (form : Form) (m : Migration) → file_of (action_of form m) ≡ Some m.old
 file_of_action Lines m = refl
 file_of_action Report m = refl
+
+-- a run of a text is built, and reads no project file
+pub built : (command : Option Command) (r : Run) → command ≡ Some (run r) → is_to_come command ≡ true → ⊥
+built command r n t = true≢false (sym t ∙ ap is_to_come n)
+
+pub no_project : (command : Option Command) (r : Run) (name : List ℕ) → command ≡ Some (run r) → project_file command ≡ Some name → ⊥
+no_project command r name n is = let none : None ≡ Some name = sym (ap project_file n) ∙ is in cc
 
 module _ (one_verdict : (bytes : List ℕ) (v w : Verdict) → FileVerdict bytes v → FileVerdict bytes w → v ≡ w)
     (told : List ℕ → Option (List ℕ)) (rose : List ℕ → Type 0) (Became : List Heard → Type 0) where
@@ -89,6 +118,8 @@ module _ (one_verdict : (bytes : List ℕ) (v w : Verdict) → FileVerdict bytes
   usage-found command a line is (unbuilt t e) = absurd (cc)
   usage-found command a line is (unread name p r e) = absurd (cc)
   usage-found command a line is (breaks b name p v e) = absurd (cc)
+  usage-found command a line is (traced r n text h e) = absurd (cc)
+  usage-found command a line is (stopped r n x h m e) = let same : cause_refused (of_text r x) ≡ why'.Usage = cc in absurd (not_for (of_text r x) why'.Usage refl same)
   usage-found command a line is (accepts c n name p f) = elim (kind told rose c f.bytes a f.follows) [
     | gives text e ↦ absurd (cc)
     | refuses x i e ↦ let same : cause_refused x ≡ why'.Usage = cc in absurd (not_for x why'.Usage refl same)
@@ -99,6 +130,8 @@ module _ (one_verdict : (bytes : List ℕ) (v w : Verdict) → FileVerdict bytes
   none-usage command a n (unbuilt t e) = absurd (cc)
   none-usage command a n (unread name p r e) = absurd (cc)
   none-usage command a n (breaks b name p v e) = absurd (cc)
+  none-usage command a n (traced r m text h e) = absurd (cc)
+  none-usage command a n (stopped r m x h t e) = absurd (cc)
   none-usage command a n (accepts c m name p f) = absurd (cc)
 
   pub refuses_usage : (command : Option Command) (s : Status) (out err : Change) → Ends told rose Became command s out err → RefusesUsage command s out err
@@ -124,6 +157,8 @@ module _ (one_verdict : (bytes : List ℕ) (v w : Verdict) → FileVerdict bytes
   unbuilt-found command a line is (unbuilt t e) = (t, cc)
   unbuilt-found command a line is (unread name p r e) = absurd (cc)
   unbuilt-found command a line is (breaks b name p v e) = absurd (cc)
+  unbuilt-found command a line is (traced r n text h e) = absurd (cc)
+  unbuilt-found command a line is (stopped r n x h m e) = let same : cause_refused (of_text r x) ≡ why'.NotBuilt = cc in absurd (not_for (of_text r x) why'.NotBuilt refl same)
   unbuilt-found command a line is (accepts c n name p f) = elim (kind told rose c f.bytes a f.follows) [
     | gives text e ↦ absurd (cc)
     | refuses x i e ↦ let same : cause_refused x ≡ why'.NotBuilt = cc in absurd (not_for x why'.NotBuilt refl same)
@@ -134,6 +169,8 @@ module _ (one_verdict : (bytes : List ℕ) (v w : Verdict) → FileVerdict bytes
   to_come-unbuilt command a t (unbuilt u e) = e
   to_come-unbuilt command a t (unread name p r e) = absurd (unread_to_come command name t p)
   to_come-unbuilt command a t (breaks b name p v e) = absurd (unread_to_come command name t p)
+  to_come-unbuilt command a t (traced r n text h e) = absurd (built command r n t)
+  to_come-unbuilt command a t (stopped r n x h m e) = absurd (built command r n t)
   to_come-unbuilt command a t (accepts c n name p f) = absurd (unread_to_come command name t p)
 
   pub refuses_not_built : (command : Option Command) (s : Status) (out err : Change) → Ends told rose Became command s out err → RefusesNotBuilt command s out err
@@ -171,6 +208,8 @@ module _ (one_verdict : (bytes : List ℕ) (v w : Verdict) → FileVerdict bytes
       by (unbuilt t e) st = absurd (unread_to_come command name t is)
       by (unread other p r e) st = absurd (subst IsDefined (st ∙ ap status_for e) d)
       by (breaks b other p v e) st = let same : other ≡ name = cc in fails b (v bytes (ap told same ∙ k)) e
+      by (traced r n text h e) st = absurd (no_project command r name n is)
+      by (stopped r n x h m e) st = absurd (no_project command r name n is)
       by (accepts c n other p f) st =
           let same : other ≡ name = cc in
           let own = subst (λ (x : List ℕ). IsFollowed told rose c x a) same f in
@@ -249,7 +288,7 @@ module _ (one_verdict : (bytes : List ℕ) (v w : Verdict) → FileVerdict bytes
 
   -- the bytes of the project file that is read first, where it is told
   own-bytes : (command : Option Command) (c : Command) → command ≡ Some c → (own : List ℕ) → file_of c ≡ Some own → (name : List ℕ) → project_file command ≡ Some name
-      → (bytes : List ℕ) → Tells (told name) bytes → TellsProject told command → told own ≡ Some bytes
+      → (bytes : List ℕ) → Tells (told name) bytes → TellsSources told command → told own ≡ Some bytes
   own-bytes command c n own is name p bytes t k =
       let held = k name (inl p) in
       let file : name ≡ own = let q : Some name ≡ Some own = sym p ∙ ap project_file n ∙ is in cc in
@@ -257,14 +296,19 @@ module _ (one_verdict : (bytes : List ℕ) (v w : Verdict) → FileVerdict bytes
 
   -- the cause of an accepted file is that of its run, or of its migration
   pub cause-comes : (some : List ℕ → Type 0) (command : Option Command) (c : Command) → command ≡ Some c → (name : List ℕ) → project_file command ≡ Some name → (a : Answer) (f : IsFollowed told rose c name a)
-      → (cause : Cause) → IsCauseOver told some c f.bytes cause → TellsProject told command → Comes told some cause
-  cause-comes some command c n name p a f (of_run r e) i k =
-      record { bytes = f.bytes; tells = own-bytes command c n r.file (ap file_of i.0) name p f.bytes f.tells k; short = f.short; simulated = i.1 }
+      → (cause : Cause) → IsCauseOver told some c f.bytes cause → TellsSources told command → Comes told some cause
+  cause-comes some command c n name p a f (of_run form r e) i k =
+      record { bytes = f.bytes; tells = own-bytes command c n r.file (ap file_of i.0 ∙ file_of_run form r) name p f.bytes f.tells k; short = f.short; simulated = i.1 }
+  cause-comes some command c n name p a f (of_text r e) i k = absurd i
+  cause-comes some command c n name p a f (of_cycle t e) i k =
+      record { bytes = f.bytes; tells = own-bytes command c n t.file (ap file_of i.0) name p f.bytes f.tells k; short = f.short; cycled = i.1 }
   cause-comes some command c n name p a f (of_migration form m e) i k =
       record { bytes = f.bytes; tells = own-bytes command c n m.old (ap file_of i.0 ∙ file_of_action form m) name p f.bytes f.tells k; short = f.short; comes = i.1 }
 
   pub cause-stops : (command : Option Command) (c : Command) → command ≡ Some c → (some : List ℕ → Type 0) (bytes : List ℕ) (cause : Cause) → IsCauseOver told some c bytes cause → Stops command cause
-  cause-stops command c n some bytes (of_run r e) i = n ∙ ap Some i.0
+  cause-stops command c n some bytes (of_run form r e) i = n ∙ ap Some i.0
+  cause-stops command c n some bytes (of_text r e) i = absurd i
+  cause-stops command c n some bytes (of_cycle t e) i = n ∙ ap Some i.0
   cause-stops command c n some bytes (of_migration form m e) i = n ∙ ap Some i.0
 
   record IsReadLine (command : Option Command) (line : List ℕ) : Type 0 where
@@ -273,20 +317,26 @@ module _ (one_verdict : (bytes : List ℕ) (v w : Verdict) → FileVerdict bytes
     pub rises : rose name
     pub line_is : line ≡ read_line name
 
-  retained-read : (command : Option Command) (r : Run) (line : List ℕ) (leaves : List Leaf) (o : Option (List ℕ)) → r.retain ≡ o → line ≡ read_line (unwrap_or o [])
-      → WhyNotBegun told rose leaves o error.RetainedRead → command ≡ Some (simulate r) → (TellsProject told command → Comes told rose (of_run r error.RetainedRead)) → IsReadLine command line
-  retained-read command r line leaves None at is h asks comes = absurd (cc)
-  retained-read command r line leaves (Some name) at is h asks comes = record { name = name; reached = later (of_run r error.RetainedRead) asks at comes; rises = h; line_is = is }
+  retained-read : (command : Option Command) (form : RunForm) (r : Run) (line : List ℕ) (leaves : List Leaf) (o : Option (List ℕ)) → r.retain ≡ o → line ≡ read_line (unwrap_or o [])
+      → WhyNotBegun told rose leaves o error.RetainedRead → command ≡ Some (run_action form r) → (TellsSources told command → Comes told rose (of_run form r error.RetainedRead)) → IsReadLine command line
+  retained-read command form r line leaves None at is h asks comes = absurd (cc)
+  retained-read command form r line leaves (Some name) at is h asks comes = record { name = name; reached = later (of_run form r error.RetainedRead) asks at comes; rises = h; line_is = is }
 
   cause-read : (command : Option Command) (c : Command) (bytes line : List ℕ) (x : Cause) → cause_refused x ≡ why'.ReadFault → line ≡ cause_line x → IsCauseOver told rose c bytes x
-      → Stops command x → (TellsProject told command → Comes told rose x) → IsReadLine command line
-  cause-read command c bytes line (of_run r (error.NoProgram n)) w is i asks comes = absurd (cc)
-  cause-read command c bytes line (of_run r error.RetainedRead) w is i asks comes = retained-read command r line i.1.comes.0.laid.leaves r.retain refl is i.1.comes.1 asks comes
-  cause-read command c bytes line (of_run r (error.Line n)) w is i asks comes = absurd (cc)
-  cause-read command c bytes line (of_run r error.EventsRead) w is i asks comes =
-      record { name = r.events; reached = later (of_run r error.EventsRead) asks refl comes; rises = i.1.comes.1; line_is = is }
-  cause-read command c bytes line (of_run r (error.Row n)) w is i asks comes = absurd (cc)
-  cause-read command c bytes line (of_run r error.NoMemory) w is i asks comes = absurd (cc)
+      → Stops command x → (TellsSources told command → Comes told rose x) → IsReadLine command line
+  cause-read command c bytes line (of_run form r (error.NoProgram n)) w is i asks comes = absurd (cc)
+  cause-read command c bytes line (of_run form r error.RetainedRead) w is i asks comes = retained-read command form r line i.1.comes.0.laid.leaves r.retain refl is i.1.comes.1 asks comes
+  cause-read command c bytes line (of_run form r (error.Line n)) w is i asks comes = absurd (cc)
+  cause-read command c bytes line (of_run form r error.EventsRead) w is i asks comes =
+      record { name = r.events; reached = later (of_run form r error.EventsRead) asks refl comes; rises = i.1.comes.1; line_is = is }
+  cause-read command c bytes line (of_run form r (error.Row n)) w is i asks comes = absurd (cc)
+  cause-read command c bytes line (of_run form r error.NoMemory) w is i asks comes = absurd (cc)
+  cause-read command c bytes line (of_text r e) w is i asks comes = absurd i
+  cause-read command c bytes line (of_cycle t (cycle_error.Tasks kind at)) w is i asks comes = absurd (cc)
+  cause-read command c bytes line (of_cycle t cycle_error.TicksRead) w is i asks comes =
+      record { name = t.ticks; reached = later (of_cycle t cycle_error.TicksRead) asks refl comes; rises = i.1.comes.1; line_is = is }
+  cause-read command c bytes line (of_cycle t (cycle_error.Row n)) w is i asks comes = absurd (cc)
+  cause-read command c bytes line (of_cycle t cycle_error.NoMemory) w is i asks comes = absurd (cc)
   cause-read command c bytes line (of_migration form m (OldProgram n)) w is i asks comes = absurd (cc)
   cause-read command c bytes line (of_migration form m NewRead) w is i asks comes =
       record { name = m.new; reached = later (of_migration form m NewRead) asks refl comes; rises = i.1.1; line_is = is }
@@ -296,11 +346,36 @@ module _ (one_verdict : (bytes : List ℕ) (v w : Verdict) → FileVerdict bytes
       record { name = m.retain; reached = later (of_migration form m RetainedRead) asks refl comes; rises = i.1.1; line_is = is }
   cause-read command c bytes line (of_migration form m (Line n)) w is i asks comes = absurd (cc)
 
+  -- of a run of a text
+  text-kept : (command : Option Command) (r : Run) (line : List ℕ) (leaves : List Leaf) (o : Option (List ℕ)) → r.retain ≡ o → line ≡ read_line (unwrap_or o [])
+      → WhyNotBegun told rose leaves o error.RetainedRead → command ≡ Some (run r) → texts.ComesTo told rose r (Err (text_error.NotRun error.RetainedRead)) → IsReadLine command line
+  text-kept command r line leaves None at is h n comes = absurd (cc)
+  text-kept command r line leaves (Some name) at is h n comes =
+      record { name = name; reached = later (of_text r (text_error.NotRun error.RetainedRead)) n at (λ _. comes); rises = h; line_is = is }
+
+  text-read : (command : Option Command) (r : Run) → command ≡ Some (run r) → (line : List ℕ) (x : TextRunError) → text_refused x ≡ why'.ReadFault → line ≡ text_error_line r x
+      → texts.ComesTo told rose r (Err x) → IsReadLine command line
+  text-read command r n line text_error.TextRead w is h = record { name = r.file; reached = later (of_text r text_error.TextRead) n refl (λ _. h); rises = h; line_is = is }
+  text-read command r n line (text_error.TextBroken b) w is h = absurd (cc)
+  text-read command r n line (text_error.NotRun (error.NoProgram k)) w is h = absurd (cc)
+  text-read command r n line (text_error.NotRun error.RetainedRead) w is h = text-kept command r line h.1.0.laid.leaves r.retain refl is h.1.1 n h
+  text-read command r n line (text_error.NotRun (error.Line k)) w is h = absurd (cc)
+  text-read command r n line (text_error.NotRun error.EventsRead) w is h =
+      record { name = r.events; reached = later (of_text r (text_error.NotRun error.EventsRead)) n refl (λ _. h); rises = h.1.1; line_is = is }
+  text-read command r n line (text_error.NotRun (error.Row k)) w is h = absurd (cc)
+  text-read command r n line (text_error.NotRun error.NoMemory) w is h = absurd (cc)
+  text-read command r n line text_error.NoMemory w is h = absurd (cc)
+
   read-found : (command : Option Command) (a : Answer) (line : List ℕ) → a ≡ refusal why'.ReadFault line → Found told rose command a → IsReadLine command line
   read-found command a line is (faulty n e) = absurd (cc)
   read-found command a line is (unbuilt t e) = absurd (cc)
   read-found command a line is (unread name p r e) = record { name = name; reached = first p; rises = r; line_is = cc }
   read-found command a line is (breaks b name p v e) = absurd (cc)
+  read-found command a line is (traced r n text h e) = absurd (cc)
+  read-found command a line is (stopped r n x h m e) =
+      let same : text_refused x ≡ why'.ReadFault = cc in
+      let text : line ≡ text_error_line r x = cc in
+      text-read command r n line x same text h
   read-found command a line is (accepts c n name p f) = elim (kind told rose c f.bytes a f.follows) [
     | gives text e ↦ absurd (cc)
     | refuses x i e ↦
@@ -329,12 +404,17 @@ module _ (one_verdict : (bytes : List ℕ) (v w : Verdict) → FileVerdict bytes
 
   -- a cause is none of memory
   no_memory : (c : Command) (bytes : List ℕ) (x : Cause) → cause_refused x ≡ why'.NoMemory → IsCauseOver told rose c bytes x → ⊥
-  no_memory c bytes (of_run r (error.NoProgram n)) w i = cc
-  no_memory c bytes (of_run r error.RetainedRead) w i = cc
-  no_memory c bytes (of_run r (error.Line n)) w i = cc
-  no_memory c bytes (of_run r error.EventsRead) w i = cc
-  no_memory c bytes (of_run r (error.Row n)) w i = cc
-  no_memory c bytes (of_run r error.NoMemory) w i = i.1.there refl
+  no_memory c bytes (of_run form r (error.NoProgram n)) w i = cc
+  no_memory c bytes (of_run form r error.RetainedRead) w i = cc
+  no_memory c bytes (of_run form r (error.Line n)) w i = cc
+  no_memory c bytes (of_run form r error.EventsRead) w i = cc
+  no_memory c bytes (of_run form r (error.Row n)) w i = cc
+  no_memory c bytes (of_run form r error.NoMemory) w i = i.1.there refl
+  no_memory c bytes (of_text r e) w i = i
+  no_memory c bytes (of_cycle t (cycle_error.Tasks kind at)) w i = cc
+  no_memory c bytes (of_cycle t cycle_error.TicksRead) w i = cc
+  no_memory c bytes (of_cycle t (cycle_error.Row n)) w i = cc
+  no_memory c bytes (of_cycle t cycle_error.NoMemory) w i = i.1.there refl
   no_memory c bytes (of_migration form m (OldProgram n)) w i = cc
   no_memory c bytes (of_migration form m NewRead) w i = cc
   no_memory c bytes (of_migration form m (NewBroken b)) w i = cc
@@ -342,12 +422,25 @@ module _ (one_verdict : (bytes : List ℕ) (v w : Verdict) → FileVerdict bytes
   no_memory c bytes (of_migration form m RetainedRead) w i = cc
   no_memory c bytes (of_migration form m (Line n)) w i = cc
 
+  text_memory : (r : Run) (x : TextRunError) → text_refused x ≡ why'.NoMemory → x ≢ text_error.NoMemory → texts.ComesTo told rose r (Err x) → ⊥
+  text_memory r text_error.TextRead w m h = cc
+  text_memory r (text_error.TextBroken b) w m h = cc
+  text_memory r (text_error.NotRun (error.NoProgram k)) w m h = cc
+  text_memory r (text_error.NotRun error.RetainedRead) w m h = cc
+  text_memory r (text_error.NotRun (error.Line k)) w m h = cc
+  text_memory r (text_error.NotRun error.EventsRead) w m h = cc
+  text_memory r (text_error.NotRun (error.Row k)) w m h = cc
+  text_memory r (text_error.NotRun error.NoMemory) w m h = h.2 refl
+  text_memory r text_error.NoMemory w m h = m refl
+
   -- want of memory is told by its own line
   memory-found : (command : Option Command) (a : Answer) (line : List ℕ) → a ≡ refusal why'.NoMemory line → Found told rose command a → ⊥
   memory-found command a line is (faulty n e) = cc
   memory-found command a line is (unbuilt t e) = cc
   memory-found command a line is (unread name p r e) = cc
   memory-found command a line is (breaks b name p v e) = cc
+  memory-found command a line is (traced r n text h e) = cc
+  memory-found command a line is (stopped r n x h m e) = let same : text_refused x ≡ why'.NoMemory = cc in text_memory r x same m h
   memory-found command a line is (accepts c n name p f) = elim (kind told rose c f.bytes a f.follows) [
     | gives text e ↦ cc
     | refuses x i e ↦ let same : cause_refused x ≡ why'.NoMemory = cc in no_memory c f.bytes x same i
@@ -381,9 +474,11 @@ module _ (one_verdict : (bytes : List ℕ) (v w : Verdict) → FileVerdict bytes
   refused-run-hears r why'.Usage ne h = h
   refused-run-hears r why'.ReadFault ne h = h
   refused-run-hears r why'.NoMemory ne h = absurd (ne refl)
+  refused-run-hears r why'.TextBroken ne h = h
   refused-run-hears r why'.EventsBroken ne h = h
   refused-run-hears r why'.NoProgram ne h = h
   refused-run-hears r why'.NotBuilt ne h = h
+  refused-run-hears r why'.TasksBroken ne h = h
 
   refused-hears : (command : Option Command) (why : Refused) (line : List ℕ) → why ≢ why'.NoMemory → Hears told Became command (refusal why line) → Became []
   refused-hears None why line ne h = h
@@ -410,9 +505,11 @@ module _ (one_verdict : (bytes : List ℕ) (v w : Verdict) → FileVerdict bytes
   refusing-hears command status.Broken out err ends h = quiet-status command status.Broken out err ends why'.Broken (λ x. cc) refl
   refusing-hears command status.Usage out err ends h = quiet-status command status.Usage out err ends why'.Usage (λ x. cc) refl
   refusing-hears command status.ReadFault out err ends h = quiet-status command status.ReadFault out err ends why'.ReadFault (λ x. cc) refl
+  refusing-hears command status.TextBroken out err ends h = quiet-status command status.TextBroken out err ends why'.TextBroken (λ x. cc) refl
   refusing-hears command status.EventsBroken out err ends h = quiet-status command status.EventsBroken out err ends why'.EventsBroken (λ x. cc) refl
   refusing-hears command status.NoProgram out err ends h = quiet-status command status.NoProgram out err ends why'.NoProgram (λ x. cc) refl
   refusing-hears command status.NotBuilt out err ends h = quiet-status command status.NotBuilt out err ends why'.NotBuilt (λ x. cc) refl
+  refusing-hears command status.TasksBroken out err ends h = quiet-status command status.TasksBroken out err ends why'.TasksBroken (λ x. cc) refl
 
   run-hears : (r : Run) (command : Option Command) (a : Answer) → command ≡ Some (simulate r) → Hears told Became command a → HearsRun told Became r a
   run-hears r command a is h = subst (λ (c : Option Command). Hears told Became c a) is h

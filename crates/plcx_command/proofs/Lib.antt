@@ -2,10 +2,13 @@ pub mod OneVerdict
 pub mod Judged
 pub mod Composed
 pub mod Statuses
+pub mod Forms
 pub mod Found
 pub mod Laws
 pub mod Migrations
 pub mod Simulations
+pub mod Cycles
+pub mod TextRuns
 pub mod Causes
 pub mod Takes
 pub mod Carried

@@ -23,18 +23,22 @@ reason status.Broken = Some why'.Broken
 reason status.Usage = Some why'.Usage
 reason status.ReadFault = Some why'.ReadFault
 reason status.NoMemory = Some why'.NoMemory
+reason status.TextBroken = Some why'.TextBroken
 reason status.EventsBroken = Some why'.EventsBroken
 reason status.NoProgram = Some why'.NoProgram
 reason status.NotBuilt = Some why'.NotBuilt
+reason status.TasksBroken = Some why'.TasksBroken
 
 reason_back : (why : Refused) → reason (status_of why) ≡ Some why
 reason_back why'.Broken = refl
 reason_back why'.Usage = refl
 reason_back why'.ReadFault = refl
 reason_back why'.NoMemory = refl
+reason_back why'.TextBroken = refl
 reason_back why'.EventsBroken = refl
 reason_back why'.NoProgram = refl
 reason_back why'.NotBuilt = refl
+reason_back why'.TasksBroken = refl
 
 -- a status tells one reason
 same_reason : (why other : Refused) → status_of why ≡ status_of other → why ≡ other

@@ -5,24 +5,31 @@ use Rattle.std.proofs.Math.Path.{fun_ext}
 use Rattle.plcx_io.specs.Counts.{Rose, raised}
 use Rattle.plcx_io.specs.Told.{Tells}
 use Rattle.plcx_types.specs.Limits.{max_file_bytes}
+use Rattle.plcx_xml.specs.declared.tree.Node.{Node}
+use Rattle.plcx_xml.specs.declared.tree.Node.TheOpen.{Node-F}
+use Rattle.plcx_xml.specs.declared.tree.Element.{Element}
 use Rattle.plcx_meaning.specs.Diagram.{Project}
 use Rattle.plcx_meaning.specs.Evaluate.{Heard}
 use Rattle.plcx_model.specs.declared.broken.Broken as model
 use Rattle.plcx_check.specs.declared.checked.Checked.{Checked}
 use Rattle.plcx_view.specs.Diagrams.{diagrams_of}
-use Rattle.plcx_words.specs.Command.{Run}
-use Rattle.plcx_traced.specs.Runs.{ComesTo}
+use Rattle.plcx_words.specs.Command.{Run, TaskRun}
 use Rattle.plcx_traced.specs.declared.error.RunError.{RunError}
 use Rattle.plcx_traced.specs.declared.error.RunError.TheVariants as error
 use Rattle.plcx_traced.proofs.Made.{not_wider}
 use Rattle.plcx_simulate.specs.Programs.{programs_of, diagrams_in}
 use Rattle.plcx_simulate.specs.Watching.{Watches, HearsFront}
 use Rattle.plcx_command.specs.Answer.{Answer, output, refusal, broken_answer, memory_answer}
+use Rattle.plcx_cycle.specs.Cycles as cycles
+use Rattle.plcx_cycle.specs.declared.error.CycleError.{CycleError}
+use Rattle.plcx_cycle.specs.declared.error.CycleError.TheVariants as cycle_error
 use Rattle.plcx_command.specs.Compiled.{HasDiagrams, IsTextOf}
+use Rattle.plcx_command.specs.Cycled.{IsCycled, AnswersCycle}
+use Rattle.plcx_command.specs.JudgementOf.{HasTree}
 use Rattle.plcx_command.specs.Hears.{HasFile, IsHeardInPart, HearsRun}
 use Rattle.plcx_command.specs.ReplyOf.{answer_of}
 use Rattle.plcx_command.specs.Says.{AfterRead, fault, too_long, whole, Judged, Answers, IsText, long_answer}
-use Rattle.plcx_command.specs.Simulated.{AnswersRun, IsSimulated, answer_to, refused_as, error_line}
+use Rattle.plcx_command.specs.Simulated.{RunForm, RunComesTo, AnswersRun, refused_as, error_line}
 use Rattle.plcx_command.specs.Taken.{IsTaken, IsAccepted, IsTakenFrom}
 use Rattle.plcx_command.specs.Verdict as verdict
 use Rattle.plcx_command.specs.Verdict.{Verdict, Refused, Passed}
@@ -48,6 +55,9 @@ module _ (file : ProjectFile) (next more : List ℕ → Answer → Type 0) (w : 
   after_less told rose name long a (fault r e) = fault r e
   after_less told rose name long a (too_long l e) = too_long l e
   after_less told rose name long a (whole bytes short tells j) = whole bytes short tells (record { verdict = j.verdict; judged = j.judged; answers = answers_less bytes j.verdict a j.answers })
+
+  pub judged_less : (bytes : List ℕ) (a : Answer) → Judged file bytes (next bytes) a → Judged file bytes (more bytes) a
+  judged_less bytes a j = record { verdict = j.verdict; judged = j.judged; answers = answers_less bytes j.verdict a j.answers }
 
 -- a file that is refused is refused whatever would follow
 pub refused_over : (file : ProjectFile) (told : Option (List ℕ)) (rose : Type 0) (name : List ℕ) (next : List ℕ → Answer → Type 0) (a : Answer)
@@ -108,28 +118,54 @@ rose_later before between now le h = omega arith
 abbrev pub accepted_same : (told same : Option (List ℕ)) (c : Checked) → told ≡ same → IsAccepted told c → IsAccepted same c
 accepted_same told same c e h = record { bytes = h.bytes; short = h.short; tells = subst (λ t. Tells t h.bytes) e h.tells; keeps = h.keeps; checked = h.checked }
 
-comes_wider : (told : List ℕ → Option (List ℕ)) (rose more : List ℕ → Type 0) → ((name : List ℕ) → rose name → more name) → (project : Project) (r : Run) (x : Result (List ℕ) RunError)
-    → ComesTo told rose (programs_of project) r x → ComesTo told more (programs_of project) r x
-comes_wider told rose more w project r (Ok text) h = h
-comes_wider told rose more w project r (Err e) h = not_wider (programs_of project) told r rose more w e h
+comes_wider : (told : List ℕ → Option (List ℕ)) (rose more : List ℕ → Type 0) → ((name : List ℕ) → rose name → more name) → (form : RunForm) (project : Project) (r : Run) (x : Result (List ℕ) RunError)
+    → RunComesTo told rose form project r x → RunComesTo told more form project r x
+comes_wider told rose more w form project r (Ok text) h = h
+comes_wider told rose more w form project r (Err e) h = not_wider (programs_of project) told r rose more w e h
 
-answers_wider : (told : List ℕ → Option (List ℕ)) (rose more : List ℕ → Type 0) → ((name : List ℕ) → rose name → more name) → (r : Run) (bytes : List ℕ) (a : Answer)
-    → AnswersRun told rose r bytes a → AnswersRun told more r bytes a
-answers_wider told rose more w r bytes a h = record {
+answers_wider : (told : List ℕ → Option (List ℕ)) (rose more : List ℕ → Type 0) → ((name : List ℕ) → rose name → more name) → (form : RunForm) (r : Run) (bytes : List ℕ) (a : Answer)
+    → AnswersRun told rose form r bytes a → AnswersRun told more form r bytes a
+answers_wider told rose more w form r bytes a h = record {
   outcome = h.outcome;
   simulated = record {
     diagrams = h.simulated.diagrams;
     has = h.simulated.has;
-    comes = comes_wider told rose more w h.simulated.diagrams r h.outcome h.simulated.comes;
+    comes = comes_wider told rose more w form h.simulated.diagrams r h.outcome h.simulated.comes;
     there = h.simulated.there;
   };
   answer = h.answer;
 }
 
 pub answers_later : (told same : List ℕ → Option (List ℕ)) → ((name : List ℕ) → told name ≡ same name) → (rose more : List ℕ → Type 0)
-    → ((name : List ℕ) → rose name → more name) → (r : Run) (bytes : List ℕ) (a : Answer)
-    → AnswersRun told rose r bytes a → AnswersRun same more r bytes a
-answers_later told same e rose more w r bytes a h = answers_wider same rose more w r bytes a (subst (λ (t : List ℕ → Option (List ℕ)). AnswersRun t rose r bytes a) (fun_ext e) h)
+    → ((name : List ℕ) → rose name → more name) → (form : RunForm) (r : Run) (bytes : List ℕ) (a : Answer)
+    → AnswersRun told rose form r bytes a → AnswersRun same more form r bytes a
+answers_later told same e rose more w form r bytes a h =
+    answers_wider same rose more w form r bytes a (subst (λ (t : List ℕ → Option (List ℕ)). AnswersRun t rose form r bytes a) (fun_ext e) h)
+
+cycles_wider : (told : List ℕ → Option (List ℕ)) (rose more : List ℕ → Type 0) → ((name : List ℕ) → rose name → more name) → (t : TaskRun) (bytes : List ℕ) (x : Result (List ℕ) CycleError)
+    → IsCycled told rose t bytes x → IsCycled told more t bytes x
+cycles_wider told rose more w t bytes (Ok text) h = record { diagrams = h.diagrams; has = h.has; comes = h.comes; there = h.there }
+cycles_wider told rose more w t bytes (Err (cycle_error.Tasks kind at)) h = record { diagrams = h.diagrams; has = h.has; comes = h.comes; there = h.there }
+cycles_wider told rose more w t bytes (Err cycle_error.TicksRead) h = record { diagrams = h.diagrams; has = h.has; comes = (h.comes.0, w t.ticks h.comes.1); there = h.there }
+cycles_wider told rose more w t bytes (Err (cycle_error.Row n)) h = record { diagrams = h.diagrams; has = h.has; comes = h.comes; there = h.there }
+cycles_wider told rose more w t bytes (Err cycle_error.NoMemory) h = absurd (h.there refl)
+
+pub cycle_later : (told same : List ℕ → Option (List ℕ)) → ((name : List ℕ) → told name ≡ same name) → (rose more : List ℕ → Type 0)
+    → ((name : List ℕ) → rose name → more name) → (t : TaskRun) (bytes : List ℕ) (a : Answer)
+    → AnswersCycle told rose t bytes a → AnswersCycle same more t bytes a
+cycle_later told same e rose more w t bytes a h =
+    let k = subst (λ (z : List ℕ → Option (List ℕ)). AnswersCycle z rose t bytes a) (fun_ext e) h in
+    record { outcome = k.outcome; cycled = cycles_wider same rose more w t bytes k.outcome k.cycled; answer = k.answer }
+
+-- the run of the tasks of a tree that is accepted
+pub cycled_there : (told : List ℕ → Option (List ℕ)) (rose : List ℕ → Type 0) (t : TaskRun) (bytes : List ℕ) (root : Node-F Node Element) (c : Checked) → HasTree bytes root c
+    → (x : Result (List ℕ) CycleError) → cycles.ComesTo told (rose t.ticks) root c.project (diagrams_in c) t x → x ≢ Err cycle_error.NoMemory → IsCycled told rose t bytes x
+cycled_there told rose t bytes root c h x comes there = record {
+  diagrams = diagrams_in c;
+  has = record { project = c.project; keeps = h.keeps; links = c.links; types = c.types; plan = c.plan; checked = h.checked; are = refl };
+  comes = subst (λ (n : Node-F Node Element). cycles.ComesTo told (rose t.ticks) n c.project (diagrams_in c) t x) (sym h.root_is) comes;
+  there = there;
+}
 
 pub hears_later : (told same : List ℕ → Option (List ℕ)) → ((name : List ℕ) → told name ≡ same name) → (Became : List Heard → Type 0) (r : Run) (a : Answer)
     → HearsRun told Became r a → HearsRun same Became r a

@@ -4,6 +4,11 @@ use Rattle.std.specs.Fmt.{decimal}
 use Rattle.plcx_model.specs.declared.broken.Broken as model
 use Rattle.plcx_model.specs.declared.broken.Place.{Place}
 use Rattle.plcx_model.specs.declared.broken.Place.TheVariants.{Byte, Element}
+use Rattle.plcx_text_file.specs.declared.broken.BrokenText.{BrokenText}
+use Rattle.plcx_text_file.specs.declared.broken.TextRule.{TextRule}
+use Rattle.plcx_text_file.specs.declared.broken.TextRule.TheVariants.{Length, Lex, Syntax, Depth, Name, Types, Recursion, Literal}
+use Rattle.plcx_plan.specs.declared.condition.TaskKind.{TaskKind}
+use Rattle.plcx_plan.specs.declared.condition.TaskKind.TheVariants as task
 use Rattle.plcx_command.specs.declared.line.ProjectFile.{ProjectFile}
 use Rattle.plcx_command.specs.declared.line.ProjectFile.TheVariants.{First, New}
 use Rattle.plcx_command.specs.declared.status.Refused.{Refused}
@@ -76,6 +81,32 @@ program_line file program programs = line (front file ++ program_words program p
 
 abbrev pub program_answer : ProjectFile → Option (List ℕ) → ℕ → Answer
 program_answer file program programs = refusal NoProgram (program_line file program programs)
+
+-- what a text breaks, as it is told
+abbrev pub text_kind : TextRule → List ℕ
+text_kind Length = codes "length"
+text_kind Lex = codes "lex"
+text_kind Syntax = codes "syntax"
+text_kind Depth = codes "depth"
+text_kind Name = codes "name"
+text_kind Types = codes "type"
+text_kind Recursion = codes "recursion"
+text_kind Literal = codes "literal"
+
+-- what a text breaks first, and where
+abbrev pub text_line : BrokenText → List ℕ
+text_line b = line (codes "text " ++ (text_kind b.rule ++ (codes " at byte " ++ decimal b.at)))
+
+-- what is wrong with tasks, as it is told
+abbrev pub task_kind : TaskKind → List ℕ
+task_kind task.Count = codes "count"
+task_kind task.Task = codes "task"
+task_kind task.Instance = codes "instance"
+task_kind task.Program = codes "program"
+
+-- what is wrong first with the tasks of a file, and where
+abbrev pub tasks_line : TaskKind → ℕ → List ℕ
+tasks_line kind at = line (codes "tasks " ++ (task_kind kind ++ (codes " at byte " ++ decimal at)))
 
 -- where retained lines, or the rows of events, are wrong
 abbrev pub retained_line : ℕ → List ℕ

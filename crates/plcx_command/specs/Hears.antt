@@ -9,7 +9,7 @@ use Rattle.plcx_simulate.specs.Watching.{HearsAll, HearsFront}
 use Rattle.plcx_command.specs.Answer.{Answer, output, refusal}
 use Rattle.plcx_command.specs.Compiled.{HasDiagrams}
 use Rattle.plcx_command.specs.declared.status.Refused.{Refused}
-use Rattle.plcx_command.specs.declared.status.Refused.TheVariants.{Broken, Usage, ReadFault, NoMemory, EventsBroken, NoProgram, NotBuilt}
+use Rattle.plcx_command.specs.declared.status.Refused.TheVariants.{Broken, Usage, ReadFault, NoMemory, TextBroken, EventsBroken, NoProgram, NotBuilt, TasksBroken}
 
 -- the diagrams of the file that a run names
 pub record HasFile (told : List ℕ → Option (List ℕ)) (r : Run) (diagrams : Project) : Type 0 where
@@ -36,9 +36,11 @@ HearsRefused told Became r NoMemory = Became [] ⊎ IsHeardInPart told r Became
 HearsRefused told Became r Broken = Became []
 HearsRefused told Became r Usage = Became []
 HearsRefused told Became r ReadFault = Became []
+HearsRefused told Became r TextBroken = Became []
 HearsRefused told Became r EventsBroken = Became []
 HearsRefused told Became r NoProgram = Became []
 HearsRefused told Became r NotBuilt = Became []
+HearsRefused told Became r TasksBroken = Became []
 
 -- what is heard of a run, by what is answered
 abbrev pub HearsRun : (List ℕ → Option (List ℕ)) → (List Heard → Type 0) → Run → Answer → Type 0

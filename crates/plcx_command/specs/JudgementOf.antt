@@ -23,6 +23,12 @@ abbrev pub IsJudgement : List ℕ → Judgement → Type 0
 IsJudgement bytes (Accepted c) = Keeps bytes c.project × IsChecked c
 IsJudgement bytes (Broken b) = Breaks bytes b
 
+-- bytes break no rule, and this is the root of their tree
+pub record HasTree (bytes : List ℕ) (root : Node-F Node Element) (c : Checked) : Type 0 where
+  pub keeps : Keeps bytes c.project
+  pub root_is : Node-F.Element keeps.root ≡ root
+  pub checked : IsChecked c
+
 -- that of bytes that stand for no tree
 abbrev pub IsFault : XmlError → Judgement → Type 0
 IsFault e (Accepted c) = ⊥

@@ -1,6 +1,7 @@
 pub mod Answer
 pub mod Causes
 pub mod Compiled
+pub mod Cycled
 pub mod Ends
 pub mod Headline
 pub mod Hears
@@ -10,6 +11,7 @@ pub mod ReplyOf
 pub mod Migrated
 pub mod Says
 pub mod Taken
+pub mod TextRun
 pub mod VersionOf
 pub mod Simulated
 pub mod Verdict

@@ -12,15 +12,19 @@ number_of status.Usage = 2
 number_of status.ReadFault = 3
 number_of status.WriteFault = 4
 number_of status.NoMemory = 5
+number_of status.TextBroken = 6
 number_of status.EventsBroken = 7
 number_of status.NoProgram = 8
 number_of status.NotBuilt = 9
+number_of status.TasksBroken = 10
 
 abbrev pub status_of : Refused → Status
 status_of refused.Broken = status.Broken
 status_of refused.Usage = status.Usage
 status_of refused.ReadFault = status.ReadFault
 status_of refused.NoMemory = status.NoMemory
+status_of refused.TextBroken = status.TextBroken
 status_of refused.EventsBroken = status.EventsBroken
 status_of refused.NoProgram = status.NoProgram
 status_of refused.NotBuilt = status.NotBuilt
+status_of refused.TasksBroken = status.TasksBroken

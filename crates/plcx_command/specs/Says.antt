@@ -5,8 +5,10 @@ use Rattle.plcx_words.specs.Command.{Command, Migration, check, compile, simulat
 use Rattle.plcx_types.specs.Limits.{max_file_bytes}
 use Rattle.plcx_command.specs.Answer.{Answer, output, ok_answer, usage_answer, not_built_answer, read_answer, broken_answer}
 use Rattle.plcx_command.specs.Compiled.{IsCompiled}
+use Rattle.plcx_command.specs.Cycled.{AnswersCycle}
 use Rattle.plcx_command.specs.Migrated.{AnswersMigration}
-use Rattle.plcx_command.specs.Simulated.{AnswersRun}
+use Rattle.plcx_command.specs.Simulated.{AnswersRun, Trace, Coverage}
+use Rattle.plcx_command.specs.TextRun.{AnswersText}
 use Rattle.plcx_command.specs.Verdict.{Verdict, IsVerdict, Accepted, Broken, at_byte}
 use Rattle.plcx_command.specs.declared.line.ProjectFile.{ProjectFile}
 use Rattle.plcx_command.specs.declared.line.ProjectFile.TheVariants.{First}
@@ -40,42 +42,49 @@ pub record IsText (bytes : List ℕ) (a : Answer) : Type 0 where
 abbrev pub long_answer : ProjectFile → Answer
 long_answer file = broken_answer file (at_byte 7 max_file_bytes)
 
--- the project file of a command, which is read first and judged; none of an action that is not built
+-- the project file of a command, which is read first and judged; none of a run of a text, and of an action that is not built
 abbrev pub file_of : Command → Option (List ℕ)
 file_of (check name) = Some name
 file_of (compile name) = Some name
 file_of (simulate r) = Some r.file
 file_of (run r) = None
 file_of (bench n) = None
-file_of (cycle t) = None
+file_of (cycle t) = Some t.file
 file_of (migrate m) = Some m.old
 file_of (report m) = Some m.old
-file_of (cover r) = None
+file_of (cover r) = Some r.file
 
 -- what an action answers to bytes that break no rule
 abbrev pub Follows : (List ℕ → Option (List ℕ)) → (List ℕ → Type 0) → Command → List ℕ → Answer → Type 0
 Follows told rose (check name) bytes a = a ≡ ok_answer
 Follows told rose (compile name) bytes a = IsText bytes a
-Follows told rose (simulate r) bytes a = AnswersRun told rose r bytes a
+Follows told rose (simulate r) bytes a = AnswersRun told rose Trace r bytes a
 Follows told rose (run r) bytes a = ⊥
 Follows told rose (bench n) bytes a = ⊥
-Follows told rose (cycle t) bytes a = ⊥
+Follows told rose (cycle t) bytes a = AnswersCycle told rose t bytes a
 Follows told rose (migrate m) bytes a = AnswersMigration told rose Lines m bytes a
 Follows told rose (report m) bytes a = AnswersMigration told rose Report m bytes a
-Follows told rose (cover r) bytes a = ⊥
+Follows told rose (cover r) bytes a = AnswersRun told rose Coverage r bytes a
 
--- what is answered over this project file, or without one
-abbrev pub SaysOver : (List ℕ → Option (List ℕ)) → (List ℕ → Type 0) → Option (List ℕ) → Command → Answer → Type 0
-SaysOver told rose (Some name) command a = AfterRead (told name) (rose name) name (long_answer First) (λ bytes. Judged First bytes (Follows told rose command bytes)) a
-SaysOver told rose None command a = a ≡ not_built_answer
+-- what is answered over the project file that is read first
+abbrev pub SaysOver : (List ℕ → Option (List ℕ)) → (List ℕ → Type 0) → (name : List ℕ) → Command → Answer → Type 0
+SaysOver told rose name command a = AfterRead (told name) (rose name) name (long_answer First) (λ bytes. Judged First bytes (Follows told rose command bytes)) a
 
 -- what a migration answers: the old file is read first
 abbrev pub SaysMigration : (List ℕ → Option (List ℕ)) → (List ℕ → Type 0) → Form → Migration → Answer → Type 0
 SaysMigration told rose form m a = AfterRead (told m.old) (rose m.old) m.old (long_answer First) (λ bytes. Judged First bytes (AnswersMigration told rose form m bytes)) a
 
--- what a command answers, where the desk tells these files and these names' counts rose
+-- What a command answers, where the desk tells these files and these names' counts rose. A run of a text reads no project file.
 abbrev pub SaysTo : (List ℕ → Option (List ℕ)) → (List ℕ → Type 0) → Command → Answer → Type 0
-SaysTo told rose command a = SaysOver told rose (file_of command) command a
+SaysTo told rose (check name) a = SaysOver told rose name (check name) a
+SaysTo told rose (compile name) a = SaysOver told rose name (compile name) a
+SaysTo told rose (simulate r) a = SaysOver told rose r.file (simulate r) a
+SaysTo told rose (run r) a = AnswersText told rose r a
+SaysTo told rose (bench n) a = a ≡ not_built_answer
+SaysTo told rose (cycle t) a = SaysOver told rose t.file (cycle t) a
+SaysTo told rose (migrate m) a = SaysOver told rose m.old (migrate m) a
+SaysTo told rose (report m) a = SaysOver told rose m.old (report m) a
+SaysTo told rose (cover r) a = SaysOver told rose r.file (cover r) a
 
 -- words that ask for nothing are a faulty command line
 abbrev pub Says : (List ℕ → Option (List ℕ)) → (List ℕ → Type 0) → Option Command → Answer → Type 0

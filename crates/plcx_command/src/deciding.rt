@@ -7,16 +7,19 @@ ghost use Rattle.plcx_words.specs.Says.{said_by, said_by_run};
 ghost use Rattle.plcx_command.specs.Answer.{memory_answer};
 ghost use Rattle.plcx_command.specs.Hears.{Hears, HearsRun};
 ghost use Rattle.plcx_command.specs.Says.{Says, SaysTo};
-ghost use Rattle.plcx_command.specs.Simulated.{AnswersRun};
+ghost use Rattle.plcx_command.specs.Simulated.{AnswersRun, Trace};
 ghost use Rattle.plcx_command.specs.ReplyOf.{answer_of};
 ghost use Rattle.plcx_command.specs.Taken.{IsAccepted};
 
+use crate::covering::cover_file;
+use crate::cycling::cycle_file;
 use crate::judging::text_of;
 use crate::line::ProjectFile;
 use crate::migrating::migrate_file;
 use crate::replies::{accepted, no_trace, not_built, usage};
 use crate::reply::Reply;
 use crate::taking::{Taken, take_file};
+use crate::texts::run_text;
 use plcx_check::Checked;
 use plcx_io::Desk;
 use plcx_migrate::Form;
@@ -57,7 +60,7 @@ fn simulated<D: Desk, W: Watch>(
     watch: &mut W,
 ) -> Result<Reply, NoMemory>
     ensures says { IfOk result (λ reply. (file : IsAccepted (D.file desk.old run.now.file.now) checked.now)
-        → AnswersRun (D.file desk.old) (λ other. Rose (D.faults desk.old other) (D.faults desk.new other)) (said_by_run run.now) file.bytes (answer_of reply)) }
+        → AnswersRun (D.file desk.old) (λ other. Rose (D.faults desk.old other) (D.faults desk.new other)) Trace (said_by_run run.now) file.bytes (answer_of reply)) }
     ensures heard { IsAccepted (D.file desk.old run.now.file.now) checked.now → MatchResult result
         (λ reply. HearsRun (D.file desk.old) (λ heard. watch.new ≡ fold W.told watch.old heard) (said_by_run run.now) (answer_of reply))
         (λ _. HearsRun (D.file desk.old) (λ heard. watch.new ≡ fold W.told watch.old heard) (said_by_run run.now) memory_answer) }
@@ -106,9 +109,10 @@ fn obey<D: Desk, W: Watch>(
         Command::Simulate(run) => simulate_file(alloc, desk, &run, watch),
         Command::Migrate(migration) => migrate_file(alloc, desk, &migration, Form::Lines),
         Command::Report(migration) => migrate_file(alloc, desk, &migration, Form::Report),
-        Command::Run(_) | Command::Bench(_) | Command::Cycle(_) | Command::Cover(_) => {
-            not_built(alloc)
-        }
+        Command::Cover(run) => cover_file(alloc, desk, &run),
+        Command::Run(run) => run_text(alloc, desk, &run),
+        Command::Cycle(run) => cycle_file(alloc, desk, &run),
+        Command::Bench(_) => not_built(alloc),
     }
 }
 

@@ -37,7 +37,8 @@ pub fn at_byte(rule: u8, byte: u64) -> Broken
 
 ghost use Rattle.plcx_command.specs.Verdict.{at_byte};
 
-fn of_tree(fault: XmlError) -> Result<Judgement, NoMemory>
+/// The verdict on bytes that stand for no tree.
+pub fn of_tree(fault: XmlError) -> Result<Judgement, NoMemory>
     ensures { IfOk result (λ j. IsFault fault j) }
 {
     match fault {
@@ -66,7 +67,8 @@ fn of_project(alloc: Global, project: Project) -> Result<Judgement, NoMemory>
 ghost use Rattle.plcx_command.specs.JudgementOf.{IsJudgementOfProject};
 ghost use Rattle.plcx_model.specs.Sound.{Sound};
 
-fn of_root(alloc: Global, root: &Node) -> Result<Judgement, NoMemory>
+/// The verdict on a tree.
+pub fn of_root(alloc: Global, root: &Node) -> Result<Judgement, NoMemory>
     requires { IsElement (out-Node root.now) }
     ensures { IfOk result (λ j. IsJudgementOfTree (out-Node root.now) j) }
 {

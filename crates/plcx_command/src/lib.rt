@@ -4,6 +4,8 @@
 //! when and what each sink got, and that the text of a diagram, read back, does what the diagram does.
 #![tactic(auto)]
 
+mod covering;
+mod cycling;
 mod deciding;
 mod finishing;
 mod judging;
@@ -14,6 +16,7 @@ mod replies;
 mod reply;
 mod status;
 mod taking;
+mod texts;
 mod top;
 
 pub use law::{one_list_of_diagrams, one_text, one_verdict};

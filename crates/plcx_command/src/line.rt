@@ -1,9 +1,11 @@
 //! The lines that tell a broken rule, a program that isn't there, and files that are refused.
-ghost use Rattle.std.specs.Prelude.{◌≡◌, ◌++◌, codes, string_bytes, IfOk};
+ghost use Rattle.std.specs.Prelude.{◌≡◌, ◌++◌, [], ◌∷◌, codes, string_bytes, IfOk};
 ghost use Rattle.std.specs.Option.{option_map};
-ghost use Rattle.plcx_command.specs.Answer.{line, front, broken_line, place_words, program_line, retained_line, row_line};
+ghost use Rattle.plcx_command.specs.Answer.{line, front, broken_line, place_words, program_line, retained_line, row_line, task_kind, tasks_line, text_kind, text_line};
 
 use plcx_model::{Broken, Place};
+use plcx_plan::TaskKind;
+use plcx_text_file::{BrokenText, TextRule};
 use plcx_types::NoMemory;
 use std::alloc::Global;
 
@@ -92,6 +94,65 @@ pub fn program_line(
         Some(name) => Ok(named_line(alloc, file, name)?.into_bytes()),
         None => Ok(counted_line(alloc, file, programs)?.into_bytes()),
     }
+}
+
+/// What a text breaks, in one word.
+fn text_kind(rule: TextRule) -> &'static str
+    ensures { result.now ≡ text_kind rule }
+{
+    match rule {
+        TextRule::Length => "length",
+        TextRule::Lex => "lex",
+        TextRule::Syntax => "syntax",
+        TextRule::Depth => "depth",
+        TextRule::Name => "name",
+        TextRule::Types => "type",
+        TextRule::Recursion => "recursion",
+        TextRule::Literal => "literal",
+    }
+}
+
+fn text_words(alloc: Global, kind: &str) -> Result<String, NoMemory>
+    ensures { IfOk result (λ text. string_bytes text ≡ codes "plcx: text " ++ kind.now) }
+{
+    Ok(format!(in alloc; "plcx: text {kind}")?)
+}
+
+/// What stands behind the kind, with the end of the line.
+fn byte_end(alloc: Global, at: u64) -> Result<String, NoMemory>
+    ensures { IfOk result (λ text. string_bytes text ≡ codes " at byte " ++ (decimal at ++ 10 ∷ [])) }
+{
+    Ok(format!(in alloc; " at byte {at}\n")?)
+}
+
+/// The line of what a text breaks first, and of its place.
+pub fn text_line(alloc: Global, broken: &BrokenText) -> Result<Vec<u8>, NoMemory>
+    ensures { IfOk result (λ text. text.items ≡ text_line broken.now) }
+{
+    let end = byte_end(alloc, broken.at)?;
+    let mut line = text_words(alloc, text_kind(broken.rule))?.into_bytes();
+    line.extend_from_slice(end.as_bytes())?;
+    Ok(line)
+}
+
+/// What is wrong with tasks, in one word.
+fn task_kind(kind: TaskKind) -> &'static str
+    ensures { result.now ≡ task_kind kind }
+{
+    match kind {
+        TaskKind::Count => "count",
+        TaskKind::Task => "task",
+        TaskKind::Instance => "instance",
+        TaskKind::Program => "program",
+    }
+}
+
+/// The line of what is wrong first with the tasks of a file, and of its place.
+pub fn tasks_line(alloc: Global, kind: TaskKind, at: u64) -> Result<Vec<u8>, NoMemory>
+    ensures { IfOk result (λ text. text.items ≡ tasks_line kind at) }
+{
+    let kind = task_kind(kind);
+    Ok(format!(in alloc; "plcx: tasks {kind} at byte {at}\n")?.into_bytes())
 }
 
 /// The line where a retained line is wrong.

@@ -10,9 +10,11 @@ pub enum Status {
     ReadFault,
     WriteFault,
     NoMemory,
+    TextBroken,
     EventsBroken,
     NoProgram,
     NotBuilt,
+    TasksBroken,
 }
 
 impl Status {
@@ -27,9 +29,11 @@ impl Status {
             Status::ReadFault => 3,
             Status::WriteFault => 4,
             Status::NoMemory => 5,
+            Status::TextBroken => 6,
             Status::EventsBroken => 7,
             Status::NoProgram => 8,
             Status::NotBuilt => 9,
+            Status::TasksBroken => 10,
         }
     }
 }
@@ -43,9 +47,11 @@ pub enum Refused {
     Usage,
     ReadFault,
     NoMemory,
+    TextBroken,
     EventsBroken,
     NoProgram,
     NotBuilt,
+    TasksBroken,
 }
 
 impl Refused {
@@ -58,9 +64,11 @@ impl Refused {
             Refused::Usage => Status::Usage,
             Refused::ReadFault => Status::ReadFault,
             Refused::NoMemory => Status::NoMemory,
+            Refused::TextBroken => Status::TextBroken,
             Refused::EventsBroken => Status::EventsBroken,
             Refused::NoProgram => Status::NoProgram,
             Refused::NotBuilt => Status::NotBuilt,
+            Refused::TasksBroken => Status::TasksBroken,
         }
     }
 }

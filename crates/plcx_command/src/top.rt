@@ -4,19 +4,24 @@ ghost use Rattle.std.specs.List.{fold};
 ghost use Rattle.plcx_io.specs.Counts.{Rose};
 ghost use Rattle.plcx_words.specs.Command.{command_of};
 ghost use Rattle.plcx_command.specs.Ends.{Ends, change};
-ghost use Rattle.plcx_command.specs.Headline.{ChecksExactly, CompilesExactly, MigratesExactly, SimulatesExactly, WatchesExactly, TellsProject, TellsAll};
+ghost use Rattle.plcx_command.specs.Headline.{ChecksExactly, CompilesExactly, CoversExactly, CyclesExactly, MigratesExactly, RunsExactly, SimulatesExactly, WatchesExactly, TellsSources, TellsAll};
 ghost use Rattle.plcx_command.specs.Headline.{RefusesUsage, RefusesBroken, RefusesFor, RefusesNotBuilt, BlamesReads, BlamesWrites, TellsMemory, IsComplete};
-ghost use Rattle.plcx_command.specs.declared.status.Refused.TheVariants.{NoProgram, EventsBroken};
+ghost use Rattle.plcx_command.specs.declared.status.Refused.TheVariants.{TextBroken, NoProgram, EventsBroken, TasksBroken};
 
 use crate::deciding::decide;
 use crate::finishing::{put, refuse};
 use crate::law::{one_list_of_diagrams, one_verdict};
 use crate::reply::Reply;
 use crate::status::{Refused, Status};
+use plcx_coverage::one_coverage;
+use plcx_cycle::one_cycle;
 use plcx_io::{Desk, Sink};
+use plcx_plan::no_plan;
 use plcx_simulate::one_outcome;
 use plcx_steps::Watch;
+use plcx_text_run::one_outcome as one_text_outcome;
 use plcx_words::Words;
+use plcx_xml::one_tree;
 use std::alloc::Global;
 
 fn run<D: Desk, O: Sink, E: Sink, W: Watch>(
@@ -66,6 +71,18 @@ pub fn plcx<D: Desk, O: Sink, E: Sink, W: Watch>(
         (change (O.written out.old) (O.written out.new) (O.faults out.old) (O.faults out.new))
         (change (E.written err.old) (E.written err.new) (E.faults err.old) (E.faults err.new)) }
 
+    ensures covers { CoversExactly (D.file desk.old) (command_of words.now) result
+        (change (O.written out.old) (O.written out.new) (O.faults out.old) (O.faults out.new))
+        (change (E.written err.old) (E.written err.new) (E.faults err.old) (E.faults err.new)) }
+
+    ensures runs { RunsExactly (D.file desk.old) (command_of words.now) result
+        (change (O.written out.old) (O.written out.new) (O.faults out.old) (O.faults out.new))
+        (change (E.written err.old) (E.written err.new) (E.faults err.old) (E.faults err.new)) }
+
+    ensures cycles { CyclesExactly (D.file desk.old) (command_of words.now) result
+        (change (O.written out.old) (O.written out.new) (O.faults out.old) (O.faults out.new))
+        (change (E.written err.old) (E.written err.new) (E.faults err.old) (E.faults err.new)) }
+
     ensures migrates { MigratesExactly (D.file desk.old) (command_of words.now) result
         (change (O.written out.old) (O.written out.new) (O.faults out.old) (O.faults out.new))
         (change (E.written err.old) (E.written err.new) (E.faults err.old) (E.faults err.new)) }
@@ -87,11 +104,19 @@ pub fn plcx<D: Desk, O: Sink, E: Sink, W: Watch>(
         (change (O.written out.old) (O.written out.new) (O.faults out.old) (O.faults out.new))
         (change (E.written err.old) (E.written err.new) (E.faults err.old) (E.faults err.new)) }
 
-    ensures no_program { RefusesFor NoProgram (TellsProject (D.file desk.old) (command_of words.now)) (D.file desk.old) (command_of words.now) result
+    ensures text_broken { RefusesFor TextBroken (TellsSources (D.file desk.old) (command_of words.now)) (D.file desk.old) (command_of words.now) result
+        (change (O.written out.old) (O.written out.new) (O.faults out.old) (O.faults out.new))
+        (change (E.written err.old) (E.written err.new) (E.faults err.old) (E.faults err.new)) }
+
+    ensures no_program { RefusesFor NoProgram (TellsSources (D.file desk.old) (command_of words.now)) (D.file desk.old) (command_of words.now) result
         (change (O.written out.old) (O.written out.new) (O.faults out.old) (O.faults out.new))
         (change (E.written err.old) (E.written err.new) (E.faults err.old) (E.faults err.new)) }
 
     ensures events_broken { RefusesFor EventsBroken (TellsAll (D.file desk.old) (command_of words.now)) (D.file desk.old) (command_of words.now) result
+        (change (O.written out.old) (O.written out.new) (O.faults out.old) (O.faults out.new))
+        (change (E.written err.old) (E.written err.new) (E.faults err.old) (E.faults err.new)) }
+
+    ensures tasks_broken { RefusesFor TasksBroken (TellsSources (D.file desk.old) (command_of words.now)) (D.file desk.old) (command_of words.now) result
         (change (O.written out.old) (O.written out.new) (O.faults out.old) (O.faults out.new))
         (change (E.written err.old) (E.written err.new) (E.faults err.old) (E.faults err.new)) }
 
@@ -116,5 +141,10 @@ pub fn plcx<D: Desk, O: Sink, E: Sink, W: Watch>(
     one_verdict();
     one_list_of_diagrams();
     one_outcome();
+    one_coverage();
+    one_text_outcome();
+    one_tree();
+    one_cycle();
+    no_plan();
     run(alloc, words, desk, out, err, watch)
 }

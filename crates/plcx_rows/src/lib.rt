@@ -1,15 +1,15 @@
-//! Tests over several crates, and of what needs no private name: values, functions, blocks, trees, and the whole way,
-//! from words and files in memory to what both sinks got.
+//! Tests over several crates, and of what needs no private name: trees, and the whole way, from words and files in memory
+//! to what both sinks got.
 #![tactic(auto)]
 
 #[cfg(test)]
-mod blocks;
-#[cfg(test)]
 mod coordinates;
 #[cfg(test)]
-mod files;
+mod coverages;
 #[cfg(test)]
-mod functions;
+mod cycles;
+#[cfg(test)]
+mod files;
 #[cfg(test)]
 mod migrations;
 #[cfg(test)]
@@ -17,7 +17,7 @@ mod runs;
 #[cfg(test)]
 mod tests;
 #[cfg(test)]
-mod values;
+mod texts;
 #[cfg(test)]
 mod wires;
 #[cfg(test)]

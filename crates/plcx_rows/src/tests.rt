@@ -109,8 +109,8 @@ fn refuses_what_is_no_command_or_not_built(rt: HostRuntime) -> Result<(), Fail> 
         let left = run_words(alloc, words, ONE_WIRE, NONE)?;
         assert!(rt; left.is(Status::Usage, "", USAGE));
     }
-    let run = run_words(alloc, &["run", "main.xml", "b.csv"], ONE_WIRE, NONE)?;
-    assert!(rt; run.is(Status::NotBuilt, "", NOT_BUILT));
+    let bench = run_words(alloc, &["bench", "3"], ONE_WIRE, NONE)?;
+    assert!(rt; bench.is(Status::NotBuilt, "", NOT_BUILT));
     Ok(())
 }
 

@@ -22,6 +22,7 @@ use plcx_scan::{Input, OpenError, Outcome, Side};
 use plcx_state::{Layout, Retained, Store, print_retained};
 use plcx_steps::{Program, State};
 use plcx_text_layout::{layout_at, program_place};
+use plcx_text_program::prepared;
 use plcx_text_runnable::{bodies_are_there, prepared_can_run, programs_stand};
 use plcx_text_steps::{Text, scan};
 use plcx_text_stored::{
@@ -75,8 +76,26 @@ impl<'a> TextSide<'a> {
         let _ = self.state.store.values();
     }
 
+    /// The side of the program of a name, from a retained state.
+    pub fn open(
+        alloc: Global,
+        ready: &'a Ready,
+        program: &Ident,
+        retained: &Retained,
+    ) -> Result<TextSide<'a>, OpenError>
+        requires retained { (p : Meant) → program_named program.now (meant ready.now) ≡ Some p → IsKeptFor (meant ready.now) p retained.now }
+        ensures opened { IfOk result (IsOpened (meant ready.entry.now) program.now retained.now) }
+        ensures no_program { IsErrOf result NoProgram ↔ (program_named program.now (meant ready.entry.now) ≡ None) }
+    {
+        if program_place(ready, program).is_none() {
+            return Err(OpenError::NoProgram);
+        }
+        let (prepared, text) = prepared(alloc, ready)?;
+        TextSide::of_prepared(alloc, ready, program, prepared, text, retained)
+    }
+
     /// The side of the program of a name in a unit that is prepared, from a retained state.
-    pub fn of_prepared(
+    fn of_prepared(
         alloc: Global,
         ready: &'a Ready,
         name: &Ident,

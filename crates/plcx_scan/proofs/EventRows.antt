@@ -32,12 +32,12 @@ use Rattle.plcx_scan.specs.Files as files
 use Rattle.plcx_scan.specs.ReadFiles.{are_time_digits, within_limit, time_of, input_of, field_inputs, inputs_of, scan_at, scan_after, scan_event, is_empty, restart_event, row_event, rows_events, IsColumnOf, AreColumns}
 
 -- what a test lets through
-passed : {A : Type 0} (b : Bool) (o : Option A) (x : A) → (if b then o else None) ≡ Some x → (b ≡ true) × (o ≡ Some x)
+pub passed : {A : Type 0} (b : Bool) (o : Option A) (x : A) → (if b then o else None) ≡ Some x → (b ≡ true) × (o ≡ Some x)
 passed true o x e = (refl, e)
 passed false o x e = absurd (cc)
 
 -- a time
-time_sound : (text : List ℕ) (t : ℕ) → time_of text ≡ Some t → IsTime text t
+pub time_sound : (text : List ℕ) (t : ℕ) → time_of text ≡ Some t → IsTime text t
 time_sound text t e =
     let first = passed (are_time_digits text) (within_limit (number text)) t e in
     let second = passed (nat_le (number text) max_event_time) (Some (number text)) t first.1 in
@@ -50,7 +50,7 @@ time_sound text t e =
       within = subst (λ n. n ≤ max_event_time) is (leb-true (number text) max_event_time second.0);
     }
 
-time_complete : (text : List ℕ) (t : ℕ) → IsTime text t → time_of text ≡ Some t
+pub time_complete : (text : List ℕ) (t : ℕ) → IsTime text t → time_of text ≡ Some t
 time_complete text t h =
     let some : 0 < length text = (let k = h.digits.some in omega arith) in
     let digits : are_time_digits text ≡ true =
@@ -141,12 +141,12 @@ inputs_long (c ∷ cs) ((byte ∷ bytes) ∷ fields) [] h = absurd h
 inputs_long (c ∷ cs) ((byte ∷ bytes) ∷ fields) (m ∷ ms) h = ap suc (inputs_long cs fields ms h.1)
 
 -- empty fields
-empty_each : (fields : Record) → list_all is_empty fields ≡ true → Each (λ (f : List ℕ). f ≡ []) fields
+pub empty_each : (fields : Record) → list_all is_empty fields ≡ true → Each (λ (f : List ℕ). f ≡ []) fields
 empty_each [] h = tt
 empty_each ([] ∷ fields) h = (refl, empty_each fields h)
 empty_each ((byte ∷ bytes) ∷ fields) h = absurd (cc)
 
-each_empty : (fields : Record) → Each (λ (f : List ℕ). f ≡ []) fields → list_all is_empty fields ≡ true
+pub each_empty : (fields : Record) → Each (λ (f : List ℕ). f ≡ []) fields → list_all is_empty fields ≡ true
 each_empty [] h = refl
 each_empty (f ∷ fields) h = and_from (is_empty f) (list_all is_empty fields) (ap is_empty h.0) (each_empty fields h.1)
 

@@ -162,13 +162,13 @@ fresh_apart taken k (d ∷ ds) h f =
     (other, fresh_apart (slice_set taken d.leaf true) k ds (ap is_taken (get_set_other taken d.leaf k true (λ e. other (sym e))) ∙ h) f.1)
 
 -- the leaf of a column has the name
-abbrev HasName : List Leaf → List ℕ → Column → Type 0
+abbrev pub HasName : List Leaf → List ℕ → Column → Type 0
 HasName leaves name d = (own : Leaf) × (slice_get leaves d.leaf ≡ Some own) × (meant_path own.path ≡ in_lower_case name ∷ [])
 
-name_of : (leaves : List Leaf) (name : List ℕ) (d : Column) (c : Meant) → IsColumn (all_meant leaves) name c → IsColumnOf leaves d c → HasName leaves name d
+pub name_of : (leaves : List Leaf) (name : List ℕ) (d : Column) (c : Meant) → IsColumn (all_meant leaves) name c → IsColumnOf leaves d c → HasName leaves name d
 name_of leaves name d c column of = (of.own, of.there, ap (λ (m : Meant). m.path) (sym of.meant_is) ∙ column.path_is)
 
-one_named : (leaves : List Leaf) (n m : List ℕ) (d e : Column) → HasName leaves n d → HasName leaves m e → e.leaf ≡ d.leaf → in_lower_case n ≡ in_lower_case m
+pub one_named : (leaves : List Leaf) (n m : List ℕ) (d e : Column) → HasName leaves n d → HasName leaves m e → e.leaf ≡ d.leaf → in_lower_case n ≡ in_lower_case m
 one_named leaves n m d e hd he same =
     let own : he.0 ≡ hd.0 = same_Some he.0 hd.0 (sym he.1 ∙ ap (slice_get leaves) same ∙ hd.1) in
     let paths : in_lower_case n ∷ [] ≡ in_lower_case m ∷ [] = sym hd.2 ∙ ap (λ (x : Leaf). meant_path x.path) (sym own) ∙ he.2 in
@@ -253,7 +253,7 @@ none_is_taken leaves (d ∷ ds) = (ap is_taken (slice_get-map (λ (leaf : Leaf).
     by (Some leaf) = refl
 
 -- two fields that have something in them
-two_words : (w v : ℕ) (ws vs : List ℕ) (header : Record) → field header 0 ≡ w ∷ ws → field header 1 ≡ v ∷ vs → header ≡ (w ∷ ws) ∷ (v ∷ vs) ∷ drop 2 header
+pub two_words : (w v : ℕ) (ws vs : List ℕ) (header : Record) → field header 0 ≡ w ∷ ws → field header 1 ≡ v ∷ vs → header ≡ (w ∷ ws) ∷ (v ∷ vs) ∷ drop 2 header
 two_words w v ws vs [] h k = absurd (cc)
 two_words w v ws vs (x ∷ []) h k = absurd (cc)
 two_words w v ws vs (x ∷ y ∷ header) h k = ap₂ (λ (a b : List ℕ). a ∷ b ∷ header) h k

@@ -10,9 +10,9 @@ use std::alloc::{AllocError, Global};
 
 /// A settable leaf, for which a scan has a field.
 #[derive(Clone, Copy, Debug)]
-pub(crate) struct Column {
-    pub(crate) leaf: u32,
-    pub(crate) ty: Ty,
+pub struct Column {
+    pub leaf: u32,
+    pub ty: Ty,
 }
 
 fn column_of(number: u32, leaf: &Leaf) -> Option<Column>
@@ -45,8 +45,13 @@ fn in_lower_case(alloc: Global, name: &[u8]) -> Result<Vec<u8>, NoMemory>
     Ok(copy)
 }
 
+/// The column of the settable leaf of this name, whatever the case of its letters.
 #[tactic(auto, unfolding(crate::specs::ReadFiles::column_named))]
-fn column_named(alloc: Global, table: &PathTable, name: &[u8]) -> Result<Option<Column>, NoMemory>
+pub fn column_named(
+    alloc: Global,
+    table: &PathTable,
+    name: &[u8],
+) -> Result<Option<Column>, NoMemory>
     requires { length table.now < 2 ^ 32 }
     ensures value { IfOk result (λ column. column ≡ column_named table.now name.now) }
     ensures within { IfOk result (λ column. IfSome column (λ c. c.leaf < length table.now)) }

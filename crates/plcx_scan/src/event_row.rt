@@ -46,7 +46,8 @@ fn within_limit(time: u64) -> Option<u64>
     }
 }
 
-fn read_time(text: &[u8]) -> Option<u64>
+/// The time that a text stands for: decimal digits for a number within the limit.
+pub fn read_time(text: &[u8]) -> Option<u64>
     ensures value { result ≡ time_of text.now }
     ensures within { IfSome result (λ time. time ≤ max_event_time) }
 {

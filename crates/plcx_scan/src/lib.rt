@@ -17,11 +17,14 @@ mod running;
 mod side;
 mod tracing;
 
+pub use column::{Column, column_named};
 pub use event::{Events, Input};
+pub use event_row::read_time;
 pub use law::{events_are_meant, one_list_of_events, one_wrong_record};
 pub use open::OpenError;
 pub use reading::{EventError, read_events};
+pub use record::{Record, Records};
 pub use row::{Shown, Trace, TraceRow};
 pub use running::run;
 pub use side::{Outcome, Side};
-pub use tracing::{run_to_text, trace_text};
+pub use tracing::{outcome_word, push_number, run_to_text, trace_text};

@@ -11,7 +11,7 @@ use std::marker::Model;
 
 /// A record, seen as its fields.
 #[derive(Drop)]
-pub(crate) struct Record {
+pub struct Record {
     row: ByteRecord,
 }
 
@@ -32,21 +32,21 @@ fn is_word(field: &[u8], word: &[u8]) -> bool
 
 impl Record {
     /// A record into which others are read.
-    pub(crate) fn new(alloc: Global) -> Record {
+    pub fn new(alloc: Global) -> Record {
         Record {
             row: ByteRecord::new(alloc),
         }
     }
 
     /// How many fields it has.
-    pub(crate) fn len(&self) -> usize
+    pub fn len(&self) -> usize
         ensures { result ≡ length self.now }
     {
         self.row.len()
     }
 
     /// The field at a place, which is empty past the end.
-    pub(crate) fn field(&self, i: usize) -> &[u8]
+    pub fn field(&self, i: usize) -> &[u8]
         ensures { result.now ≡ field self.now i }
     {
         match self.row.get(i) {
@@ -56,14 +56,14 @@ impl Record {
     }
 
     /// Whether the field at a place is this word.
-    pub(crate) fn has_word(&self, i: usize, word: &[u8]) -> bool
+    pub fn has_word(&self, i: usize, word: &[u8]) -> bool
         ensures { result ≡ has_word self.now i word.now }
     {
         is_word(self.field(i), word)
     }
 
     /// Whether all fields behind the first are empty.
-    pub(crate) fn is_word_alone(&self) -> bool
+    pub fn is_word_alone(&self) -> bool
         ensures { result ≡ is_word_alone self.now }
     {
         for i in 1..self.len() {
@@ -77,7 +77,7 @@ impl Record {
 
 /// The records of a file that are left to read, one after another into the same record.
 #[derive(Drop)]
-pub(crate) struct Records<'a> {
+pub struct Records<'a> {
     reader: Reader<&'a [u8]>,
     ended: bool,
 }
@@ -95,7 +95,7 @@ impl<'a> Model for Records<'a> {
 
 impl<'a> Records<'a> {
     /// The records of a file: commas, double quotes, no trimming, any lengths, and none of them apart as a header.
-    pub(crate) fn of(alloc: Global, bytes: &'a [u8]) -> Records<'a>
+    pub fn of(alloc: Global, bytes: &'a [u8]) -> Records<'a>
         ensures { result ≡ records_of bytes.now }
     {
         let reader = ReaderBuilder::new()
@@ -109,7 +109,7 @@ impl<'a> Records<'a> {
     }
 
     /// Reads the next record, if there is one.
-    pub(crate) fn read(&mut self, row: &mut Record) -> Result<bool, NoMemory>
+    pub fn read(&mut self, row: &mut Record) -> Result<bool, NoMemory>
         ensures { IfOk result (λ found. self.old ≡ (if found then row.new ∷ self.new else [])) }
     {
         if self.ended {

@@ -18,7 +18,8 @@ use plcx_state::{Layout, Leaf};
 use plcx_types::{Fault, NoMemory, Val, print_literal};
 use std::alloc::Global;
 
-fn word(outcome: Outcome) -> &'static [u8]
+/// The word for what is told of an event.
+pub fn outcome_word(outcome: Outcome) -> &'static [u8]
     ensures { result.now ≡ word (told outcome) }
 {
     match outcome {
@@ -49,7 +50,8 @@ fn push_values(alloc: Global, text: &mut Vec<u8>, values: &[Val]) -> Result<(), 
     Ok(())
 }
 
-fn push_number(alloc: Global, text: &mut Vec<u8>, number: u64) -> Result<(), NoMemory>
+/// A number in decimal digits, behind a text.
+pub fn push_number(alloc: Global, text: &mut Vec<u8>, number: u64) -> Result<(), NoMemory>
     ensures { OnOk result (text.new.items ≡ text.old.items ++ decimal number) }
 {
     let digits = format!(in alloc; "{number}")?;
@@ -62,7 +64,7 @@ fn push_row(alloc: Global, text: &mut Vec<u8>, number: u64, row: &TraceRow) -> R
 {
     push_number(alloc, text, number)?;
     text.push(b',')?;
-    text.extend_from_slice(word(row.outcome))?;
+    text.extend_from_slice(outcome_word(row.outcome))?;
     push_values(alloc, text, row.values.as_slice())?;
     text.push(b'\n')?;
     Ok(())

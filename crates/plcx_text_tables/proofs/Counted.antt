@@ -1,5 +1,5 @@
 -- The leaves of POUs are those of the unit.
-use Rattle.std.proofs.Common.{◌≡◌, ℕ, zero, suc, ◌+◌, Bool, true, false, cond, List, [], ◌∷◌, ◌++◌, Option, Some, None, map, option_map, get_or, slice_get, length, length-append, refl, sym, ap, ap₂, subst, ◌∙◌}
+use Rattle.std.proofs.Common.{◌≡◌, ℕ, zero, suc, ◌+◌, Bool, true, false, cond, List, [], ◌∷◌, ◌++◌, Option, Some, None, map, option_map, slice_get, length, length-append, refl, sym, ap, ap₂, ◌∙◌}
 use Rattle.std.specs.List.{flat_map, sum_by}
 use Rattle.std.proofs.lemmas.List.{length-map}
 use Rattle.std.proofs.lemmas.List.Sums.{sum_by-cons}
@@ -23,7 +23,7 @@ use Rattle.plcx_known.proofs.Standing.{plain, meaning_is}
 use Rattle.plcx_known.proofs.LongChains.{at_or, get_or_map}
 use Rattle.plcx_numbered.specs.Numbers.{behind, variable_places, places}
 use Rattle.plcx_numbered.specs.Numbers.{Place as Lying}
-use Rattle.plcx_text_tables.specs.Counts.{type_leaves, leaves_in, next_counts, counts}
+use Rattle.plcx_text_tables.specs.Counts.{type_leaves, leaves_in, counts}
 
 -- ---- leaves
 

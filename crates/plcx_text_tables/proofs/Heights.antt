@@ -5,7 +5,7 @@ use Rattle.plcx_types.specs.TypeName.{type_named}
 use Rattle.plcx_std.specs.Kind.{kind_named}
 use Rattle.plcx_meaning.specs.Base.{are_distinct}
 use Rattle.plcx_meaning.specs.Tree as tree
-use Rattle.plcx_meaning.specs.Layout.{Variable, variables_of}
+use Rattle.plcx_meaning.specs.Layout.{Variable}
 use Rattle.plcx_meaning.specs.Ready.{user_block}
 use Rattle.plcx_conditions.specs.Placed.{Pou, bare_pou, bare, Declared, declared, bare_variable}
 use Rattle.plcx_conditions.proofs.Units.{variables_bare}

@@ -10,17 +10,17 @@ use Rattle.plcx_types.specs.Value.{Value}
 use Rattle.plcx_std.specs.declared.kind.StdKind.{StdKind}
 use Rattle.plcx_std.specs.Kind.{kind_named}
 use Rattle.plcx_funcs.specs.Applied.{value}
+use Rattle.plcx_meaning.specs.Base.{are_distinct}
 use Rattle.plcx_meaning.specs.Tree as tree
 use Rattle.plcx_meaning.specs.Tree.{Class, Local, Input, Output, InOut, Temp}
 use Rattle.plcx_meaning.specs.Layout.{Variable, variables_of, variable_named, initial_value, World}
 use Rattle.plcx_meaning.specs.Evaluate.{is_in_out as meant_in_out}
 use Rattle.plcx_meaning.specs.Execute as text
-use Rattle.plcx_meaning.specs.Ready.{IsReady}
 use Rattle.plcx_steps.specs.declared.program.Operand.TheVariants as operand
 use Rattle.plcx_conditions.specs.Placed.{Literal, Pou, bare_pou, bare, Declared, declared, bare_variable}
 use Rattle.plcx_conditions.specs.Known.{world_of}
 use Rattle.plcx_conditions.proofs.Units.{variables_bare}
-use Rattle.plcx_conditions.proofs.Worlds.{world_is}
+use Rattle.plcx_conditions.proofs.Worlds.{pou_names, world_is}
 use Rattle.plcx_known.specs.declared.types.VarType.{VarType}
 use Rattle.plcx_known.specs.declared.types.VarType.TheVariants as type
 use Rattle.plcx_known.specs.Types.{place_named, block_at, block_type, composed_type, type_of}
@@ -34,7 +34,7 @@ use Rattle.plcx_text_numbered.specs.Numbers.{places_of, leaf_count, leaf_number,
 use Rattle.plcx_text_numbered.specs.Numbers.{is_temporary as meant_temporary}
 use Rattle.plcx_text_tables.specs.Counts.{leaves_in, counts, heights}
 use Rattle.plcx_text_tables.specs.Tabled.{Numbered, Count, no_count, counted, numbered, table_of, number_named, leaf_named, is_in_out, is_temporary, type_in, first_in}
-use Rattle.plcx_text_tables.specs.Laws.{IsFound, AreFound, place_or, IsTableOf}
+use Rattle.plcx_text_tables.specs.Laws.{AreFound, place_or, IsTableOf}
 use Rattle.plcx_text_tables.proofs.Counted.{variable_leaves, pou_leaves}
 use Rattle.plcx_text_tables.proofs.Heights.{heights_are}
 use Rattle.plcx_text_tables.proofs.Numbered.{found, found_is, stands, leaf_is, place_is}
@@ -44,7 +44,7 @@ of_place : (o : Option Numbered) → place_or o ≡ elim (option_map (λ (n : Nu
 of_place None = refl
 of_place (Some n) = refl
 
-module _ (pous : List Pou) (ready : IsReady (bare pous)) where
+module _ (pous : List Pou) (distinct : are_distinct (pou_names (bare pous)) ≡ true) where
   abbrev unit : List tree.PouText
   unit = bare pous
 
@@ -52,7 +52,7 @@ module _ (pous : List Pou) (ready : IsReady (bare pous)) where
   own_counts = counts 17 (owners_of pous)
 
   worlds : world_of unit ≡ text.world_of unit
-  worlds = world_is unit ready.distinct
+  worlds = world_is unit distinct
 
   -- the leaves of a variable
   are : (d : Declared) → leaves_in 17 own_counts (typed unit d) ≡ leaf_count unit (bare_variable d)
@@ -162,6 +162,6 @@ module _ (pous : List Pou) (ready : IsReady (bare pous)) where
 
   pub level_is : (k : ℕ) (p : Pou) → slice_get pous k ≡ Some p → size_at (heights 17 (owners_of pous)) k ≡ level inner_depth unit (bare_pou p)
   level_is k p there =
-      ap (λ (ls : List ℕ). size_at ls k) (heights_are pous ready.distinct 17)
+      ap (λ (ls : List ℕ). size_at ls k) (heights_are pous distinct 17)
       ∙ get_or_map (λ (q : Pou). level 17 unit (bare_pou q)) 0 pous k
       ∙ ap (at_or (λ (q : Pou). level 17 unit (bare_pou q)) 0) there

@@ -1,10 +1,12 @@
 //! The tables of all POUs of a unit.
-ghost use Rattle.std.specs.Prelude.{◌≡◌, List, map, option_map, slice_get, IfOk};
+ghost use Rattle.std.specs.Prelude.{◌≡◌, ◌<◌, List, Some, length, map, option_map, slice_get, IfOk};
 ghost use Rattle.plcx_st.specs.declared.tree.PouText.{PouText};
+ghost use Rattle.plcx_st.specs.Meant.{pou_meant};
 ghost use Rattle.plcx_known.specs.Unit.{placed_of};
 ghost use Rattle.plcx_known.specs.Parts.{owners_of};
 ghost use Rattle.plcx_known.specs.Owned.{Typed};
 ghost use Rattle.plcx_known.specs.Sizes.{size_at};
+ghost use Rattle.plcx_text_numbered.specs.Numbers.{place_named};
 ghost use Rattle.plcx_text_tables.specs.Counts.{all_counts, all_heights};
 ghost use Rattle.plcx_text_tables.specs.Tabled.{table_of, shown_table};
 
@@ -98,6 +100,31 @@ fn table_at<'t, 'u>(tables: &'t [Table<'u>], place: usize) -> Option<&'t Table<'
     tables.get(place)
 }
 
+#[tactic(auto, using(crate::proofs::Found::is_there))]
+fn there<'t, 'u>(tables: &'t [Table<'u>], place: usize) -> &'t Table<'u>
+    requires { place < length tables.now }
+    ensures { slice_get (map shown_table tables.now) place ≡ Some (shown_table result.now) }
+{
+    &tables[place]
+}
+
+fn pou_at(pous: &[PouText], place: usize) -> Option<&PouText>
+    ensures { option_map (λ p. p.now) result ≡ slice_get pous.now place }
+{
+    pous.get(place)
+}
+
+fn or_count(place: Option<usize>, count: usize) -> usize
+    ensures { result ≡ unwrap_or place count }
+{
+    match place {
+        None => count,
+        Some(place) => place,
+    }
+}
+
+ghost use Rattle.std.specs.Prelude.{unwrap_or};
+
 impl<'u> Tables<'u> {
     /// The tables of these POUs.
     pub fn of(alloc: Global, pous: &'u [PouText]) -> Result<Tables<'u>, NoMemory>
@@ -119,10 +146,34 @@ impl<'u> Tables<'u> {
         at(&self.levels, place)
     }
 
+    /// The POU at a place.
+    pub fn pou(&self, place: usize) -> Option<&'u PouText>
+        ensures { option_map (λ p. p.now) result ≡ slice_get self.now place }
+    {
+        pou_at(self.pous, place)
+    }
+
+    /// The place of the first POU of a name, whatever the case of its letters; their count where none has it.
+    #[tactic(auto, using(crate::proofs::Found::named_at))]
+    pub fn place(&self, alloc: Global, name: &[u8]) -> Result<usize, NoMemory>
+        ensures { IfOk result (λ place. place ≡ place_named name.now (map pou_meant self.now)) }
+    {
+        let place = self.names.place(alloc, name)?;
+        Ok(or_count(place, self.pous.len()))
+    }
+
     /// The table of the POU at a place.
     pub fn table(&self, place: usize) -> Option<&Table<'u>>
         ensures { option_map (λ t. shown_table t.now) result ≡ slice_get (map (table_of (all_counts (owners_of (placed_of self.now)))) (owners_of (placed_of self.now))) place }
     {
         table_at(&self.tables, place)
+    }
+
+    /// The table of a POU that is there.
+    pub fn table_there(&self, place: usize) -> &Table<'u>
+        requires { place < length self.now }
+        ensures { slice_get (map (table_of (all_counts (owners_of (placed_of self.now)))) (owners_of (placed_of self.now))) place ≡ Some (shown_table result.now) }
+    {
+        there(&self.tables, place)
     }
 }

@@ -1,1 +1,5 @@
 pub mod Texts
+pub mod Ticks
+pub mod Errors
+-- serves proofs alone
+pub mod ReadTicks

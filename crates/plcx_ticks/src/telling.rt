@@ -1,30 +1,14 @@
 //! The rows of a run as a text.
 ghost use Rattle.std.specs.Prelude.{◌≡◌, ◌++◌, ◌∷◌, List, drop, IfOk, OnOk, slice_get};
 ghost use Rattle.plcx_state.specs.declared.layout.Leaf.{Leaf};
-ghost use Rattle.std.specs.Fmt.{decimal};
 ghost use Rattle.plcx_scan.specs.Rows.{shown_leaves};
-ghost use Rattle.plcx_scan.specs.Sides.{told};
-ghost use Rattle.plcx_scan.specs.Texts.{word};
 ghost use Rattle.plcx_ticks.specs.Texts.{name_in, leaves_in, named_value, named_values, row_front, row_line, task_text};
 
-use plcx_scan::Outcome;
+use plcx_scan::{outcome_word, push_number};
 use plcx_state::{Layout, Leaf};
 use plcx_tasks::{Instance, TaskPlan, TaskRow, TaskTrace};
-use plcx_types::{Fault, NoMemory, Val, print_literal};
+use plcx_types::{NoMemory, Val, print_literal};
 use std::alloc::Global;
-
-fn word(outcome: Outcome) -> &'static [u8]
-    ensures { result.now ≡ word (told outcome) }
-{
-    match outcome {
-        Outcome::Ended => b"ok",
-        Outcome::Fault(Fault::DivByZero) => b"fault DivByZero",
-        Outcome::Fault(Fault::Range) => b"fault Range",
-        Outcome::OutOfTurns => b"turns",
-        Outcome::Halted => b"halted",
-        Outcome::Restarted => b"restart",
-    }
-}
 
 fn name_at(instances: &[Instance], place: u32) -> &[u8]
     ensures { result.now ≡ name_in (slice_get instances.now place) }
@@ -42,14 +26,6 @@ fn leaves_at(layouts: &[Layout], place: u32) -> &[Leaf]
         None => &[],
         Some(layout) => layout.leaves(),
     }
-}
-
-fn push_number(alloc: Global, text: &mut Vec<u8>, number: u64) -> Result<(), NoMemory>
-    ensures { OnOk result (text.new.items ≡ text.old.items ++ decimal number) }
-{
-    let digits = format!(in alloc; "{number}")?;
-    text.extend_from_slice(digits.as_bytes())?;
-    Ok(())
 }
 
 fn push_value(alloc: Global, text: &mut Vec<u8>, leaf: &Leaf, value: Val) -> Result<(), NoMemory>
@@ -125,7 +101,7 @@ fn push_row(
     ensures { OnOk result (text.new.items ≡ text.old.items ++ row_line plan.now layouts.now row.now) }
 {
     push_front(alloc, text, plan, row)?;
-    text.extend_from_slice(word(row.outcome))?;
+    text.extend_from_slice(outcome_word(row.outcome))?;
     push_values(
         alloc,
         text,

@@ -10,8 +10,17 @@ returns-in-Compile-clause-says g c = rw c.in-Compile.is c.compile_file.ensures
 pub returns-in-Simulate-clause-says : goal.returns-in-Simulate-clause-says
 returns-in-Simulate-clause-says g c = rw c.in-Simulate.is c.simulate_file.ensures.says
 
+pub returns-in-Run-clause-says : goal.returns-in-Run-clause-says
+returns-in-Run-clause-says g c = rw c.in-Run.is c.run_text.ensures
+
+pub returns-in-Cycle-clause-says : goal.returns-in-Cycle-clause-says
+returns-in-Cycle-clause-says g c = rw c.in-Cycle.is c.cycle_file.ensures
+
 pub returns-in-Migrate-clause-says : goal.returns-in-Migrate-clause-says
 returns-in-Migrate-clause-says g c = rw c.in-Migrate.is c.migrate_file.ensures
 
 pub returns-in-Report-clause-says : goal.returns-in-Report-clause-says
 returns-in-Report-clause-says g c = rw c.in-Report.is c.migrate_file-in-Report.ensures
+
+pub returns-in-Cover-clause-says : goal.returns-in-Cover-clause-says
+returns-in-Cover-clause-says g c = rw c.in-Cover.is c.cover_file.ensures

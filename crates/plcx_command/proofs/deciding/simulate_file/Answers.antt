@@ -4,6 +4,7 @@ use Rattle.plcx_io.specs.Counts.{Rose}
 use Rattle.plcx_words.specs.Says.{said_by_run}
 use Rattle.plcx_command.specs.Answer.{memory_answer}
 use Rattle.plcx_command.specs.ReplyOf.{answer_of}
+use Rattle.plcx_command.specs.Simulated.{Trace}
 use Rattle.plcx_command.specs.declared.line.ProjectFile.TheVariants.{First}
 use Rattle.plcx_command.proofs.Takes.{accepted_over, accepted_same, answers_later, hears_later, match_weaker, refused_over, rose_later}
 use Rattle.plcx_command.proofs.deciding.simulate_file.Goals as goal
@@ -20,7 +21,7 @@ returns-in-Accepted-clause-says g c =
     let rose = λ (name : List ℕ). Rose (g.D.Desk.faults c.args.desk.now name) (g.D.Desk.faults c.simulated.new.desk name) in
     let wider = λ (name : List ℕ) (x : between name). rose_later _ _ _ (c.take_file.ensures.later name) x in
     IfOk-weaker c.simulated.result _ _ (λ reply h.
-    accepted_over First _ _ r.file _ checked (answer_of reply) file (answers_later (g.D.Desk.file c.take_file.new.desk) told files between rose wider r file.bytes (answer_of reply) (h same))) c.simulated.ensures.says
+    accepted_over First _ _ r.file _ checked (answer_of reply) file (answers_later (g.D.Desk.file c.take_file.new.desk) told files between rose wider Trace r file.bytes (answer_of reply) (h same))) c.simulated.ensures.says
 
 pub returns-in-Accepted-clause-heard : goal.returns-in-Accepted-clause-heard
 returns-in-Accepted-clause-heard g c =

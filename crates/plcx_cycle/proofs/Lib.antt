@@ -1,0 +1,5 @@
+pub mod Named
+pub mod Loops
+pub mod Owned
+pub mod OneCycle
+pub mod Planned

@@ -1,0 +1,3 @@
+pub mod Cycles
+-- serves proofs alone
+pub mod Sides

@@ -1,0 +1,3 @@
+pub mod OneOutcome
+pub mod Chosen
+pub mod Executed

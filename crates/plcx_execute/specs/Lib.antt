@@ -1,0 +1,3 @@
+pub mod Programs
+-- serves proofs alone
+pub mod Choosing

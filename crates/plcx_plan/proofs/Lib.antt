@@ -1,0 +1,15 @@
+pub mod Values
+pub mod Faults
+pub mod Advance
+pub mod Loop
+pub mod Led
+pub mod Seconds
+pub mod NoLiteral
+pub mod Options
+pub mod Lengths
+pub mod Follows
+pub mod Listing
+pub mod OnePlan
+pub mod Texts
+pub mod Tables
+pub mod Inserted

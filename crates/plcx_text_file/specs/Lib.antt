@@ -1,0 +1,4 @@
+pub mod Texts
+pub mod Files
+-- serves proofs alone
+pub mod Refusals

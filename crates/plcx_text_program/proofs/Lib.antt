@@ -1,0 +1,10 @@
+pub mod Telling
+pub mod Naming
+pub mod Leading
+pub mod Pins
+pub mod Calling
+pub mod Bare
+pub mod BareBodies
+pub mod Texts
+pub mod Adding
+pub mod Ready
