@@ -20,21 +20,18 @@ class CountingSide(scans.Side):
         super().__init__(data, program, turns)
         self.texts = texts.Writer(data)
         self.counts = {(id(e), pin): [0, 0] for p in self.rules.pous for e in p.body for pin, _ in self.texts.wires(e)}
-        self.enabled = {}
+        self.made = {}
 
     def block(self, inst, p, e, wires, give):
-        """What a block does, and whether it did it."""
-        en = next(((k, i) for k, i in enumerate(e.ins) if up(i.formal) == 'EN'), None)
-        enabled = 1 if en is None else self.link(inst, p, e, en[0], en[1].wires, wires, en[1].mods.negated)
-        super().block(inst, p, e, wires, give)
-        self.enabled[id(e)] = enabled
+        """What a block does, whose outputs are kept by name."""
+        self.made[id(e)] = super().block(inst, p, e, wires, give)
 
     def element(self, inst, p, e, wires):
         """What one element does; where it comes to its end, its wires are counted."""
         super().element(inst, p, e, wires)
         names = self.rules.outs_named(e) if e.kind == 'block' else ['']
         for pin, ty in self.texts.wires(e):
-            value = wires[(id(e), names.index(up(pin)))] if up(pin) in names else self.enabled[id(e)]
+            value = wires[(id(e), names.index(up(pin)))] if up(pin) in names else self.made[id(e)][up(pin)]
             count = self.counts[(id(e), pin)]
             count[0] += 1
             count[1] += int(ty == 'BOOL' and bool(value))
