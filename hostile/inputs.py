@@ -131,6 +131,7 @@ def files():
         'quotes.csv': filled('event,time,A\n', '"'),
         'columns.csv': filled('event,time,A', ',A'),
         'lines.csv': filled('', 'A := TRUE\n'),
+        'empty.csv': '',
         'parentheses.st': nested_text(200),
         'too-many-parentheses.st': nested_text(100000),
         'loops.st': nested_statements(200),
