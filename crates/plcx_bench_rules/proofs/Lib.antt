@@ -1,0 +1,4 @@
+pub mod Names
+pub mod Held
+pub mod Blocks
+pub mod Body

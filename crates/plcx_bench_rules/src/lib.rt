@@ -1,0 +1,9 @@
+//! The project that a bench measures breaks no rule on references, pins, names and types.
+//!
+//! `bench_breaks_no_rule` says so of the definitions alone, and `checked_bench` checks the project, which only want of
+//! memory can hinder.
+#![tactic(auto)]
+
+mod law;
+
+pub use law::bench_breaks_no_rule;
