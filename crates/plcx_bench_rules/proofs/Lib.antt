@@ -2,3 +2,4 @@ pub mod Names
 pub mod Held
 pub mod Blocks
 pub mod Body
+pub mod Links
