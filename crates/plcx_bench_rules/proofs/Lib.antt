@@ -3,3 +3,4 @@ pub mod Held
 pub mod Blocks
 pub mod Body
 pub mod Links
+pub mod Sheets
