@@ -4,3 +4,4 @@ pub mod Blocks
 pub mod Body
 pub mod Links
 pub mod Sheets
+pub mod Typing
