@@ -5,3 +5,4 @@ pub mod Body
 pub mod Links
 pub mod Sheets
 pub mod Typing
+pub mod Unbroken

@@ -4,6 +4,8 @@
 //! memory can hinder.
 #![tactic(auto)]
 
+mod checked;
 mod law;
 
+pub use checked::checked_bench;
 pub use law::bench_breaks_no_rule;
