@@ -1,12 +1,11 @@
 -- The elements of the ring: which stand where, and which outputs their connections name.
-use Rattle.std.proofs.Common.{◌≡◌, ℕ, zero, suc, ◌+◌, ◌*◌, ◌%◌, ◌≤◌, ◌<◌, Bool, true, false, cond, eqb, nat_eq, List, [], ◌∷◌, ◌++◌, length, get_or, take, Option, Some, None, flat_map, slice_get, codes, refl, ap, sym, ◌∙◌, arith, inl, inr, ◌⊎◌, eq-eqb, ne_eqb, eqb-true}
+use Rattle.std.proofs.Common.{◌≡◌, ℕ, zero, suc, ◌+◌, ◌*◌, ◌≤◌, ◌<◌, false, nat_eq, List, [], ◌∷◌, length, get_or, take, Some, None, flat_map, slice_get, codes, refl, ap, ◌∙◌, arith, inl, inr, ◌⊎◌, eq-eqb, ne_eqb}
 use Rattle.std.proofs.lemmas.Bool.{cases_eq, cond-true, cond-false, or_from}
 use Rattle.std.proofs.lemmas.Option.{slice_get-get_or}
 use Rattle.std.specs.List.{list_any, position_from, range_with_len}
 use Rattle.plcx_model.specs.declared.body.Connection.{Connection}
 use Rattle.plcx_model.specs.declared.body.Kind.TheVariants as kind
 use Rattle.plcx_model.specs.declared.body.BodyElement.{BodyElement}
-use Rattle.plcx_model.specs.declared.source.Source.{Source}
 use Rattle.plcx_rules.specs.Sources.{source, place_of_id, output_place, source_of}
 use Rattle.plcx_bench_project.specs.Bench.{variable_name, next_name, id_in, plain, element_in, to, term, network, ring_elements}
 use Rattle.plcx_bench_rules.proofs.Blocks.{blocks_length, at_block}

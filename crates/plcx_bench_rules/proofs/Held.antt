@@ -1,5 +1,5 @@
 -- What the texts of the ring hold: each variable's name that variable, and `DINT#1` a literal.
-use Rattle.std.proofs.Common.{◌≡◌, ℕ, zero, suc, pos, ◌+◌, ◌≤◌, ◌<◌, Bool, true, false, cond, List, [], ◌∷◌, ◌++◌, map, Option, Some, None, option_map, codes, refl, ap, sym, ◌∙◌, arith, inl, inr, ◌⊎◌}
+use Rattle.std.proofs.Common.{◌≡◌, ℕ, zero, suc, pos, ◌+◌, ◌≤◌, ◌<◌, false, List, [], ◌++◌, map, Option, Some, None, option_map, codes, refl, ap, sym, ◌∙◌, arith, inl, inr, ◌⊎◌}
 use Rattle.std.proofs.lemmas.Bool.{cases_eq, cond-true, cond-false}
 use Rattle.std.specs.List.{find, range_with_len}
 use Rattle.plcx_types.specs.declared.literal.Literal.{Literal}
@@ -16,7 +16,7 @@ use Rattle.plcx_rules.specs.Texts.{same_name, trimmed}
 use Rattle.plcx_rules.specs.Declarations.{Declaration, is_of_name, declaration_named}
 use Rattle.plcx_rules.specs.Helds.{Held, OfLiteral, OfVariable, held_by, or_else, member_held, held_in, text_held}
 use Rattle.plcx_bench_project.specs.Bench.{variable_name, variable, ring}
-use Rattle.plcx_bench_rules.proofs.Names.{IsSmall, name_trimmed, no_literal, name_lower, one_name, two_names}
+use Rattle.plcx_bench_rules.proofs.Names.{name_trimmed, no_literal, name_lower, one_name, two_names}
 
 -- the declaration of a variable: neither constant nor an input
 abbrev pub declaration : ℕ → Declaration
@@ -52,7 +52,7 @@ held_name : (pous : List Pou) (n i : ℕ) → n ≤ 1000 → i < n → held_in p
 unfolding held_in
 held_name pous n i small below =
     by_name (literal_of (in_lower_case (variable_name i))) (declaration_named (ring n) (variable_name i)) (member_held pous (ring n) (variable_name i)) (declaration i)
-        (ap literal_of (name_lower i (omega arith)) ∙ no_literal _) (named n i small below)
+    (ap literal_of (name_lower i (omega arith)) ∙ no_literal _) (named n i small below)
 
 -- a variable's name holds the variable
 pub name_holds : (pous : List Pou) (n i : ℕ) → n ≤ 1000 → i < n → text_held pous (ring n) (variable_name i) ≡ Some (OfVariable (declaration i) ty.Dint)

@@ -1,22 +1,20 @@
 -- The rules on references, pins and names: why no element of the ring breaks any of them.
-use Rattle.std.proofs.Common.{◌≡◌, ℕ, zero, suc, ◌+◌, ◌*◌, ◌%◌, ◌≤◌, ◌<◌, Bool, true, false, not, ◌||◌, List, [], ◌∷◌, ◌++◌, Option, Some, None, is_none, codes, refl, ap, ◌∙◌, arith}
+use Rattle.std.proofs.Common.{◌≡◌, ℕ, zero, suc, ◌+◌, ◌*◌, ◌%◌, ◌≤◌, ◌<◌, Bool, true, false, not, List, [], ◌∷◌, ◌++◌, Option, Some, None, is_none, refl, ap, arith}
 use Rattle.std.specs.Fmt.{digits}
 use Rattle.std.proofs.lemmas.Bool.{both_ways, or_from}
-use Rattle.plcx_types.specs.ReadConversion.{conversion_of}
 use Rattle.plcx_model.specs.declared.body.Connection.{Connection}
-use Rattle.plcx_model.specs.declared.body.Kind.{Kind}
 use Rattle.plcx_model.specs.declared.body.BodyElement.{BodyElement}
 use Rattle.plcx_model.specs.declared.project.Pou.{Pou}
 use Rattle.plcx_model.specs.declared.project.Project.{Project}
 use Rattle.plcx_model.specs.Verdict.{Never, Kept, Next}
 use Rattle.plcx_rules.specs.declared.rule.LinkRule.{LinkRule}
 use Rattle.plcx_rules.specs.declared.rule.LinkRule.TheVariants as rule
-use Rattle.plcx_rules.specs.Callees.{block_named, callee_named, function_input, inputs_of, in_outs_of, outputs_of}
+use Rattle.plcx_rules.specs.Callees.{callee_named, function_input, inputs_of, in_outs_of, outputs_of}
 use Rattle.plcx_rules.specs.Helds.{is_value, is_target}
 use Rattle.plcx_rules.specs.Sources.{place_of_id, source_of}
 use Rattle.plcx_rules.specs.Items.{Item, items_in, items_of}
-use Rattle.plcx_rules.specs.LinkRules.{any_connection, lacks_source, has_no_callee, breaks_instance, inputs_fail, in_outs_fail, outputs_fail, breaks_formals, breaks_expression, breaks_target, breaks_connector, breaks_label, breaks_modifiers, is_of_ladder, breaks, BreaksLink, link_rules, LinkVerdict}
-use Rattle.plcx_bench_project.specs.Bench.{variable_name, next_name, id_in, ring, ring_elements}
+use Rattle.plcx_rules.specs.LinkRules.{any_connection, lacks_source, has_no_callee, breaks_instance, inputs_fail, in_outs_fail, outputs_fail, breaks_formals, breaks_expression, breaks_target, breaks_connector, breaks_label, breaks_modifiers, is_of_ladder, breaks, BreaksLink, LinkVerdict}
+use Rattle.plcx_bench_project.specs.Bench.{id_in, ring, ring_elements}
 use Rattle.plcx_bench_rules.proofs.Held.{name_holds, one_holds}
 use Rattle.plcx_bench_rules.proofs.Body.{reads, one, adds, writes, networks, numbered, none_before, place_of, to_reads, to_one, to_adds, reads_found, one_found, adds_found}
 
@@ -42,9 +40,19 @@ module _ (n : ℕ) (P : Item → Type 0)
     (no_writes : (i p : ℕ) → i < n → p ≡ 4 * i + 3 → P (item n p (writes n i)) → ⊥) where
   never_from : (p a m : ℕ) → p ≡ 4 * a → a + m ≤ n → (before : List Item) → Never (λ (b : List Item) (x : Item). P x) before (items_in 0 (ring n) p (networks n a m) ++ [])
   never_from p a zero at within before = tt
-  never_from p a (suc m) at within before =
-      (no_reads a p (omega arith) at, (no_one a (p + 1) (omega arith) (omega arith), (no_adds a (p + 1 + 1) (omega arith) (omega arith), (no_writes a (p + 1 + 1 + 1) (omega arith) (omega arith),
-        never_from (p + 1 + 1 + 1 + 1) (a + 1) m (omega arith) (omega arith) _))))
+  never_from p a (suc m) at within before = (
+    no_reads a p (omega arith) at,
+    (
+      no_one a (p + 1) (omega arith) (omega arith),
+      (
+        no_adds a (p + 1 + 1) (omega arith) (omega arith),
+        (
+          no_writes a (p + 1 + 1 + 1) (omega arith) (omega arith),
+          never_from (p + 1 + 1 + 1 + 1) (a + 1) m (omega arith) (omega arith) _,
+        ),
+      ),
+    ),
+  )
 
   pub never : Never (λ (b : List Item) (x : Item). P x) [] (items_of (pous n))
   unfolding items_of
@@ -174,4 +182,4 @@ ladders n = keeps n rule.Ladders (λ i p below at. refl) (λ i p below at. refl)
 pub links_kept : (n : ℕ) → n ≤ 1000 → LinkVerdict (bench n) None
 links_kept n small =
     Next (local_ids n) (Next (references n) (Next (outputs n) (Next (several n) (Next (missing n) (Next (block_types n) (Next (instances n)
-      (Next (formals n) (Next (expressions n small) (Next (targets n small) (Next (connectors n) (Next (labels n) (Next (modifiers n) (Next (ladders n) Kept)))))))))))))
+    (Next (formals n) (Next (expressions n small) (Next (targets n small) (Next (connectors n) (Next (labels n) (Next (modifiers n) (Next (ladders n) Kept)))))))))))))

@@ -1,5 +1,5 @@
 -- What the types of the ring go by: of each network two inputs that are grouped, the target's input, and the sources of these.
-use Rattle.std.proofs.Common.{◌≡◌, ℕ, zero, suc, ◌+◌, ◌*◌, ◌%◌, ◌≤◌, ◌<◌, Bool, false, List, [], ◌∷◌, map, flat_map, Option, Some, None, option_map, codes, refl, ap, arith}
+use Rattle.std.proofs.Common.{◌≡◌, ℕ, zero, suc, ◌+◌, ◌*◌, ◌%◌, ◌≤◌, ◌<◌, false, List, [], ◌∷◌, map, flat_map, Option, Some, None, option_map, codes, refl, ap, arith}
 use Rattle.std.specs.Fmt.{digits}
 use Rattle.std.specs.List.{range_with_len, cons_option}
 use Rattle.plcx_types.specs.declared.ty.Ty.TheVariants as ty
@@ -72,8 +72,8 @@ unfolding element_pins block_pins callee_named inputs_of function_input digits
 pins_are n p a zero small at within = refl
 pins_are n p a (suc m) small at within =
     pin_row (p + 1 + 1) (4 * a + 2) (p + 1 + 1 + 1) (4 * a + 3) (option_map class.Fixed (declared (text_gives (pous n) (ring n) (next_name n a)))) (Some (class.Fixed ty.Dint)) _ _
-      (omega arith) (omega arith) (ap (λ g. option_map class.Fixed (declared g)) (variable_gives n ((a + 1) % n) small (omega arith)))
-      (pins_are n (p + 1 + 1 + 1 + 1) (a + 1) m small (omega arith) (omega arith))
+    (omega arith) (omega arith) (ap (λ g. option_map class.Fixed (declared g)) (variable_gives n ((a + 1) % n) small (omega arith)))
+    (pins_are n (p + 1 + 1 + 1 + 1) (a + 1) m small (omega arith) (omega arith))
 
 -- ---- forms
 
@@ -100,7 +100,7 @@ unfolding pins_with_sources
 sources_are n a zero within = refl
 sources_are n a (suc m) within =
     source_row (source_of (ring_elements n) (to_reads a)) (source_of (ring_elements n) (to_one a)) (source_of (ring_elements n) (to_adds a)) (source (4 * a) 0) (source (4 * a + 1) 0) (source (4 * a + 2) 0) _ _
-      (reads_found n a (omega arith)) (one_found n a (omega arith)) (adds_found n a (omega arith)) (sources_are n (a + 1) m (omega arith))
+    (reads_found n a (omega arith)) (one_found n a (omega arith)) (adds_found n a (omega arith)) (sources_are n (a + 1) m (omega arith))
 
 -- ---- the sheet
 

@@ -1,6 +1,6 @@
 -- The rules on types: why no element of the ring breaks any of them. Each pin, group and output has the type DINT and no other.
-use Rattle.std.proofs.Common.{◌≡◌, ◌≢◌, ℕ, zero, suc, ◌+◌, ◌*◌, ◌/◌, ◌%◌, ◌≤◌, ◌<◌, Bool, true, false, List, [], ◌∷◌, length, get_or, Contains, Option, Some, None, refl, ap, sym, subst, ◌∙◌, arith, inl, inr, ◌⊎◌}
-use Rattle.std.proofs.lemmas.Bool.{cases_lt, true≢false, false≢true}
+use Rattle.std.proofs.Common.{◌≡◌, ℕ, zero, suc, ◌+◌, ◌*◌, ◌/◌, ◌%◌, ◌≤◌, ◌<◌, true, false, List, [], ◌∷◌, length, get_or, Contains, Some, None, refl, ap, sym, subst, ◌∙◌, arith, inl, inr, ◌⊎◌}
+use Rattle.std.proofs.lemmas.Bool.{cases_lt}
 use Rattle.std.proofs.lemmas.List.{get_or_past}
 use Rattle.plcx_types.specs.declared.ty.Ty.{Ty}
 use Rattle.plcx_types.specs.declared.ty.Ty.TheVariants as ty
@@ -14,13 +14,13 @@ use Rattle.plcx_rules.specs.declared.form.Pin.{Pin}
 use Rattle.plcx_rules.specs.declared.form.Gives.{Gives}
 use Rattle.plcx_rules.specs.declared.form.Gives.TheVariants.{Typed, Grouped, Untyped, Nothing}
 use Rattle.plcx_rules.specs.declared.form.Out.{Out}
-use Rattle.plcx_rules.specs.declared.form.Grouping.TheVariants.{Apart, Function, Passing}
+use Rattle.plcx_rules.specs.declared.form.Grouping.TheVariants.{Function}
 use Rattle.plcx_rules.specs.declared.form.Form.{Form}
 use Rattle.plcx_rules.specs.declared.form.TypeRule.{TypeRule}
 use Rattle.plcx_rules.specs.declared.form.TypeRule.TheVariants as rule
 use Rattle.plcx_rules.specs.Forms.{out, sheet_at}
 use Rattle.plcx_rules.specs.Sources.{source, links_of}
-use Rattle.plcx_rules.specs.Types.{Sheet, no_form, no_out, no_pin, form_at, pin_at, sources_at, output_among, output_at, gives_at, is_untyped, IsPinOf, Point, AtPin, AtGroup, AtOutput, HasType, DeclaredPin, DeclaredOutput, GroupOfSource, PinOfGroup, OutputOfGroup, LoneOfSource, LoneOfLiteral}
+use Rattle.plcx_rules.specs.Types.{Sheet, no_form, no_out, no_pin, form_at, pin_at, sources_at, output_among, output_at, Point, AtPin, AtGroup, AtOutput, HasType, DeclaredPin, DeclaredOutput, GroupOfSource, PinOfGroup, OutputOfGroup, LoneOfSource, LoneOfLiteral}
 use Rattle.plcx_rules.specs.TypingRules.{HasNoType, Disagrees, SourceDiffers, GroupDiffers, GroupIsBarred, LoneIsBarred, LiteralMeetsTime, SeveralMeet, PinIsNoBool, OutputIsNoBool, LiteralIsNoBool, OperandIsNoBool, IsOutside, BreaksIn, BreaksTyping, TypingVerdict}
 use Rattle.plcx_rules.specs.Items.{Item, items_of}
 use Rattle.plcx_bench_project.specs.Bench.{ring}

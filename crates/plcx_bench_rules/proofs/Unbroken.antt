@@ -1,5 +1,5 @@
 -- A project that is measured breaks no rule.
-use Rattle.std.proofs.Common.{◌≡◌, ℕ, None, sym, subst}
+use Rattle.std.proofs.Common.{ℕ, None, sym, subst}
 use Rattle.plcx_model.specs.declared.project.Project.{Project}
 use Rattle.plcx_rules.specs.CheckVerdict.{CheckVerdict, Unbroken}
 use Rattle.plcx_bench_project.specs.Bench.{IsMeasured, IsBench}
