@@ -1,5 +1,5 @@
 -- The elements of the ring: which stand where, and which outputs their connections name.
-use Rattle.std.proofs.Common.{◌≡◌, ℕ, zero, suc, ◌+◌, ◌*◌, ◌≤◌, ◌<◌, false, nat_eq, List, [], ◌∷◌, length, get_or, take, Some, None, flat_map, slice_get, codes, refl, ap, ◌∙◌, arith, inl, inr, ◌⊎◌, eq-eqb, ne_eqb}
+use Rattle.std.proofs.Common.{◌≡◌, ℕ, zero, suc, ◌+◌, ◌*◌, ◌≤◌, ◌<◌, Bool, false, nat_eq, List, [], ◌∷◌, length, get_or, take, Some, None, flat_map, slice_get, codes, refl, ap, ◌∙◌, arith, inl, inr, ◌⊎◌, eq-eqb, ne_eqb}
 use Rattle.std.proofs.lemmas.Bool.{cases_eq, cond-true, cond-false, or_from}
 use Rattle.std.proofs.lemmas.Option.{slice_get-get_or}
 use Rattle.std.specs.List.{list_any, position_from, range_with_len}
@@ -68,6 +68,10 @@ numbered_from n p a (suc m) at = (omega arith, (omega arith, (omega arith, (omeg
 pub numbered : (n : ℕ) → IsNumbered 0 (ring_elements n)
 numbered n = numbered_from n 0 0 n (omega arith)
 
+-- the element has that number
+abbrev has_number : ℕ → BodyElement → Bool
+has_number id e = nat_eq e.local_id id
+
 -- none of the first k has a number that comes later
 pub none_before : (id p k : ℕ) (es : List BodyElement) → IsNumbered p es → p + k < id → list_any (λ (e : BodyElement). nat_eq e.local_id id) (take k es) ≡ false
 none_before id p zero es is later = refl
@@ -77,11 +81,11 @@ none_before id p (suc k) (e ∷ es) is later =
     or_from _ _ (ne_eqb e.local_id id (λ same. omega arith)) (none_before id (p + 1) k es is.1 (omega arith))
 
 -- the place of a number
-place_from : (id p at : ℕ) (es : List BodyElement) → IsNumbered p es → id ≡ at + 1 → p ≤ at → at < p + length es → position_from (λ (e : BodyElement). nat_eq e.local_id id) p es ≡ Some at
+place_from : (id p at : ℕ) (es : List BodyElement) → IsNumbered p es → id ≡ at + 1 → p ≤ at → at < p + length es → position_from (has_number id) p es ≡ Some at
 place_from id p at [] is number from to = absurd (omega arith)
 place_from id p at (e ∷ es) is number from to = by (cases_eq p at) (λ more. place_from id (p + 1) at es is.1 number more (omega arith))
   where
-    by : (p ≡ at) ⊎ (p ≡ at → ⊥) → (p + 1 ≤ at → position_from (λ (e : BodyElement). nat_eq e.local_id id) (p + 1) es ≡ Some at) → position_from (λ (e : BodyElement). nat_eq e.local_id id) p (e ∷ es) ≡ Some at
+    by : (p ≡ at) ⊎ (p ≡ at → ⊥) → (p + 1 ≤ at → position_from (has_number id) (p + 1) es ≡ Some at) → position_from (has_number id) p (e ∷ es) ≡ Some at
     by (inl same) later = let own = is.0 in cond-true _ _ _ (eq-eqb e.local_id id (omega arith)) ∙ ap Some same
     by (inr differ) later = let own = is.0 in cond-false _ _ _ (ne_eqb e.local_id id (λ k. differ (omega arith))) ∙ later (omega arith)
 
@@ -91,7 +95,9 @@ place_of n id at number below = place_from id 0 at (ring_elements n) (numbered n
 
 -- ---- connections
 
-source_found : (es : List BodyElement) (c : Connection) (p pin : ℕ) (e : BodyElement) → place_of_id es c.element ≡ Some p → slice_get es p ≡ Some e → output_place e.kind c.formal ≡ Some pin → source_of es c ≡ Some (source p pin)
+-- the source of a connection, by the element that it names
+source_found : (es : List BodyElement) (c : Connection) (p pin : ℕ) (e : BodyElement)
+    → place_of_id es c.element ≡ Some p → slice_get es p ≡ Some e → output_place e.kind c.formal ≡ Some pin → source_of es c ≡ Some (source p pin)
 unfolding source_of
 source_found es c p pin e at is named = rw (at, is, named) refl
 
@@ -99,6 +105,7 @@ source_found es c p pin e at is named = rw (at, is, named) refl
 abbrev pub to_reads : ℕ → Connection
 to_reads i = record { element = id_in i 1; formal = [] }
 
+-- to its 1
 abbrev pub to_one : ℕ → Connection
 to_one i = record { element = id_in i 2; formal = [] }
 
@@ -119,10 +126,16 @@ unfolding output_place
 output_of_adds i = refl
 
 pub reads_found : (n i : ℕ) → i < n → source_of (ring_elements n) (to_reads i) ≡ Some (source (4 * i) 0)
-reads_found n i below = source_found (ring_elements n) (to_reads i) (4 * i) 0 (reads i) (place_of n (id_in i 1) (4 * i) refl (omega arith)) (reads_at n i (4 * i) below refl) (output_of_reads i)
+reads_found n i below =
+    source_found (ring_elements n) (to_reads i) (4 * i) 0 (reads i)
+    (place_of n (id_in i 1) (4 * i) refl (omega arith)) (reads_at n i (4 * i) below refl) (output_of_reads i)
 
 pub one_found : (n i : ℕ) → i < n → source_of (ring_elements n) (to_one i) ≡ Some (source (4 * i + 1) 0)
-one_found n i below = source_found (ring_elements n) (to_one i) (4 * i + 1) 0 (one i) (place_of n (id_in i 2) (4 * i + 1) (omega arith) (omega arith)) (one_at n i (4 * i + 1) below refl) (output_of_one i)
+one_found n i below =
+    source_found (ring_elements n) (to_one i) (4 * i + 1) 0 (one i)
+    (place_of n (id_in i 2) (4 * i + 1) (omega arith) (omega arith)) (one_at n i (4 * i + 1) below refl) (output_of_one i)
 
 pub adds_found : (n i : ℕ) → i < n → source_of (ring_elements n) (to_adds i) ≡ Some (source (4 * i + 2) 0)
-adds_found n i below = source_found (ring_elements n) (to_adds i) (4 * i + 2) 0 (adds i) (place_of n (id_in i 3) (4 * i + 2) (omega arith) (omega arith)) (adds_at n i (4 * i + 2) below refl) (output_of_adds i)
+adds_found n i below =
+    source_found (ring_elements n) (to_adds i) (4 * i + 2) 0 (adds i)
+    (place_of n (id_in i 3) (4 * i + 2) (omega arith) (omega arith)) (adds_at n i (4 * i + 2) below refl) (output_of_adds i)

@@ -29,11 +29,14 @@ declared v = record { class = Local; constant = false; variable = v }
 abbrev declarations_from : ℕ → ℕ → List Declaration
 declarations_from a m = map declared (map variable (range_with_len a m)) ++ []
 
+-- the first of the ring's names that is one with a variable's is its own
 found : (i a m : ℕ) → a + m ≤ 1000 → a ≤ i → i < a + m → find (is_of_name (variable_name i)) (declarations_from a m) ≡ Some (declaration i)
 found i a zero small from to = absurd (omega arith)
 found i a (suc m) small from to = by (cases_eq i a) (λ more. found i (a + 1) m (omega arith) more (omega arith))
   where
-    by : (i ≡ a) ⊎ (i ≡ a → ⊥) → (a + 1 ≤ i → find (is_of_name (variable_name i)) (declarations_from (a + 1) m) ≡ Some (declaration i)) → find (is_of_name (variable_name i)) (declarations_from a (suc m)) ≡ Some (declaration i)
+    by : (i ≡ a) ⊎ (i ≡ a → ⊥)
+        → (a + 1 ≤ i → find (is_of_name (variable_name i)) (declarations_from (a + 1) m) ≡ Some (declaration i))
+        → find (is_of_name (variable_name i)) (declarations_from a (suc m)) ≡ Some (declaration i)
     by (inl e) later = cond-true _ _ _ (ap (λ j. same_name (variable_name i) (variable_name j)) (sym e) ∙ one_name i) ∙ ap (λ j. Some (declaration j)) (sym e)
     by (inr differ) later = cond-false _ _ _ (two_names i a (omega arith) (omega arith) differ) ∙ later (omega arith)
 
@@ -42,6 +45,7 @@ named : (n i : ℕ) → n ≤ 1000 → i < n → declaration_named (ring n) (var
 unfolding declaration_named
 named n i small below = found i 0 n (omega arith) (omega arith) (omega arith)
 
+-- where a text is no literal, a declared name leads to what it holds
 by_name : (l : Option Literal) (o : Option Declaration) (other : Option Held) (d : Declaration) → l ≡ None → o ≡ Some d
     → or_else (option_map OfLiteral l) (or_else (option_map (λ (x : Declaration). held_by x x.variable.ty) o) other) ≡ Some (held_by d d.variable.ty)
 by_name (Some l) o other d e f = cc

@@ -17,6 +17,7 @@ use Rattle.plcx_rules.proofs.Lists.{each_append, each_more}
 
 -- ---- digits
 
+-- the byte of a digit
 abbrev pub IsDigit : ℕ → Type 0
 IsDigit c = (48 ≤ c) × (c ≤ 57)
 
@@ -35,6 +36,7 @@ lower_digits (d ∷ ds) e = let head = lower_digit d e.0 in let tail = lower_dig
 
 -- ---- white space
 
+-- no white space
 abbrev IsInk : ℕ → Type 0
 IsInk c = is_space c ≡ false
 
@@ -52,6 +54,7 @@ no_space (x ∷ xs) e = rw (e.0) refl
 all_taken : (k : ℕ) (xs : List ℕ) → k ≡ 0 → take (length xs - k) xs ≡ xs
 all_taken k xs none = let all : length xs - k ≡ length xs = omega arith in ap (λ m. take m xs) all ∙ take-length xs
 
+-- a text in which no white space stands is kept whole
 without_space : (c : ℕ) (xs : List ℕ) → Each IsInk (c ∷ xs) → trimmed (c ∷ xs) ≡ c ∷ xs
 unfolding trimmed
 without_space c xs e = rw (no_space (c ∷ xs) e) (all_taken (prefix_len is_space (reverse (c ∷ xs))) (c ∷ xs) (no_space (reverse (c ∷ xs)) (ink_reversed (c ∷ xs) [] e tt)))

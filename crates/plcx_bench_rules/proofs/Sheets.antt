@@ -33,6 +33,7 @@ grouped e = pin e (Some class.Group) false
 abbrev pub fixed : ℕ → Pin
 fixed e = pin e (Some (class.Fixed ty.Dint)) false
 
+-- the input pins of a network
 abbrev pub ring_pins : ℕ → List Pin
 ring_pins i = grouped (4 * i + 2) ∷ grouped (4 * i + 2) ∷ fixed (4 * i + 3) ∷ []
 
@@ -48,23 +49,31 @@ sum = record { outputs = Listed (out Grouped false ∷ []); grouping = Function 
 abbrev pub target : Form
 target = apart Absent None
 
+-- its elements
 abbrev pub ring_forms : ℕ → List Form
 ring_forms i = value ∷ value ∷ sum ∷ target ∷ []
 
+-- the sources of its input pins
 abbrev pub ring_sources : ℕ → List (List Source)
 ring_sources i = (source (4 * i) 0 ∷ []) ∷ (source (4 * i + 1) 0 ∷ []) ∷ (source (4 * i + 2) 0 ∷ []) ∷ []
 
 -- all networks
 abbrev pub sheet : ℕ → Sheet
-sheet n = record { forms = flat_map ring_forms (range_with_len 0 n); pins = flat_map ring_pins (range_with_len 0 n); sources = flat_map ring_sources (range_with_len 0 n) }
+sheet n = record {
+  forms = flat_map ring_forms (range_with_len 0 n);
+  pins = flat_map ring_pins (range_with_len 0 n);
+  sources = flat_map ring_sources (range_with_len 0 n);
+}
 
 -- ---- pins
 
+-- a variable gives its type
 variable_gives : (n i : ℕ) → n ≤ 1000 → i < n → text_gives (pous n) (ring n) (variable_name i) ≡ Typed ty.Dint
 unfolding text_gives
 variable_gives n i small below = ap gives_held (name_holds (pous n) n i small below)
 
-pin_row : (x u y v : ℕ) (c d : Option Class) (r s : List Pin) → x ≡ u → y ≡ v → c ≡ d → r ≡ s → grouped x ∷ grouped x ∷ pin y c false ∷ r ≡ grouped u ∷ grouped u ∷ pin v d false ∷ s
+pin_row : (x u y v : ℕ) (c d : Option Class) (r s : List Pin) → x ≡ u → y ≡ v → c ≡ d → r ≡ s
+    → grouped x ∷ grouped x ∷ pin y c false ∷ r ≡ grouped u ∷ grouped u ∷ pin v d false ∷ s
 pin_row x u y v c d r s e f g h = cc
 
 pins_are : (n p a m : ℕ) → n ≤ 1000 → p ≡ 4 * a → a + m ≤ n → pins_from (pous n) (ring n) p (networks n a m) ≡ flat_map ring_pins (range_with_len a m)
@@ -77,7 +86,8 @@ pins_are n p a (suc m) small at within =
 
 -- ---- forms
 
-form_row : (g h : Gives) (r s : List Form) → g ≡ h → r ≡ s → apart (Single (out g false)) None ∷ value ∷ sum ∷ target ∷ r ≡ apart (Single (out h false)) None ∷ value ∷ sum ∷ target ∷ s
+form_row : (g h : Gives) (r s : List Form) → g ≡ h → r ≡ s
+    → apart (Single (out g false)) None ∷ value ∷ sum ∷ target ∷ r ≡ apart (Single (out h false)) None ∷ value ∷ sum ∷ target ∷ s
 form_row g h r s e f = cc
 
 one_gives : (n : ℕ) → text_gives (pous n) (ring n) (codes "DINT#1") ≡ Typed ty.Dint
@@ -87,7 +97,9 @@ one_gives n = ap gives_held (one_holds (pous n) n)
 forms_are : (n a m : ℕ) → n ≤ 1000 → a + m ≤ n → map (λ (x : BodyElement). form_of (pous n) (ring n) x.kind) (networks n a m) ≡ flat_map ring_forms (range_with_len a m)
 unfolding form_of block_outputs callee_named outputs_of
 forms_are n a zero small within = refl
-forms_are n a (suc m) small within = rw (one_gives n) (form_row (text_gives (pous n) (ring n) (variable_name a)) (Typed ty.Dint) _ _ (variable_gives n a small (omega arith)) (forms_are n (a + 1) m small (omega arith)))
+forms_are n a (suc m) small within =
+    rw (one_gives n)
+    (form_row (text_gives (pous n) (ring n) (variable_name a)) (Typed ty.Dint) _ _ (variable_gives n a small (omega arith)) (forms_are n (a + 1) m small (omega arith)))
 
 -- ---- sources
 
@@ -99,12 +111,14 @@ sources_are : (n a m : ℕ) → a + m ≤ n → flat_map (λ (e : BodyElement). 
 unfolding pins_with_sources
 sources_are n a zero within = refl
 sources_are n a (suc m) within =
-    source_row (source_of (ring_elements n) (to_reads a)) (source_of (ring_elements n) (to_one a)) (source_of (ring_elements n) (to_adds a)) (source (4 * a) 0) (source (4 * a + 1) 0) (source (4 * a + 2) 0) _ _
+    source_row (source_of (ring_elements n) (to_reads a)) (source_of (ring_elements n) (to_one a)) (source_of (ring_elements n) (to_adds a))
+    (source (4 * a) 0) (source (4 * a + 1) 0) (source (4 * a + 2) 0) _ _
     (reads_found n a (omega arith)) (one_found n a (omega arith)) (adds_found n a (omega arith)) (sources_are n (a + 1) m (omega arith))
 
 -- ---- the sheet
 
-same_sheet : (f g : List Form) (p q : List Pin) (s t : List (List Source)) → f ≡ g → p ≡ q → s ≡ t → let a : Sheet = record { forms = f; pins = p; sources = s } in let b : Sheet = record { forms = g; pins = q; sources = t } in a ≡ b
+same_sheet : (f g : List Form) (p q : List Pin) (s t : List (List Source)) → f ≡ g → p ≡ q → s ≡ t
+    → let a : Sheet = record { forms = f; pins = p; sources = s } in let b : Sheet = record { forms = g; pins = q; sources = t } in a ≡ b
 same_sheet f g p q s t d e h = cc
 
 pub sheet_is : (n : ℕ) → n ≤ 1000 → sheet_at (pous n) (links_of (pous n)) 0 (ring n) ≡ sheet n

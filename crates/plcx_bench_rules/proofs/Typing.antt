@@ -90,6 +90,7 @@ GivesDint Grouped = Unit {0}
 GivesDint (Untyped k) = ⊥
 GivesDint Nothing = Unit {0}
 
+-- it isn't negated, and gives no type but DINT
 abbrev IsPlain : Out → Type 0
 IsPlain o = (o.negated ≡ false) × GivesDint o.gives
 
@@ -112,6 +113,7 @@ declared_dint : (n p : ℕ) (t : Ty) → PinCase n p → (pin_at (sheet n) p).cl
 declared_dint n p t (OfGroup i k below within is from) e = let group = ap (λ (q : Pin). q.class) is in cc
 declared_dint n p t (OfFixed i below is from) e = let one = ap (λ (q : Pin). q.class) is in cc
 
+-- what has a type has DINT
 only : (n : ℕ) (x : Point) (t : Ty) → HasType (sheet n) x t → t ≡ ty.Dint
 only n _ _ (DeclaredPin {i} {t} within is) = declared_dint n i t (pin_case n i within) is
 only n _ _ (DeclaredOutput {o} {t} is) = subst GivesDint is (output_plain n o).1
@@ -134,6 +136,7 @@ value_dint n i k below within = DeclaredOutput (ap (λ (f : Form). (output_among
 contains_first : {A : Type 0} (xs : List A) (x : A) → xs ≡ x ∷ [] → Contains xs x
 contains_first xs x is = subst (λ ys. Contains ys x) (sym is) (0, omega arith, refl)
 
+-- the group of an addition has the type of the variable at its first input
 group_dint : (n i : ℕ) → i < n → HasType (sheet n) (AtGroup (4 * i + 2)) ty.Dint
 group_dint n i below =
     let inside : 3 * i < length (sheet n).pins = omega (arith, pin_count n) in
@@ -143,6 +146,7 @@ group_dint n i below =
     let from : sources_at (sheet n) (3 * i) ≡ source (4 * i + 0) 0 ∷ [] = sources_of_block n i 0 (3 * i) below (omega arith) first ∙ ap (λ (m : ℕ). source m 0 ∷ []) zeroth in
     GroupOfSource (record { count = inside; owner = ap (λ (q : Pin). q.element) is }) (ap (λ (q : Pin). q.class) is) (contains_first _ _ from) (value_dint n i 0 below (omega arith))
 
+-- so has each pin
 pin_dint : (n p : ℕ) → p < length (sheet n).pins → PinCase n p → HasType (sheet n) (AtPin p) ty.Dint
 pin_dint n p inside (OfGroup i k below within is from) = PinOfGroup (record { count = inside; owner = ap (λ (q : Pin). q.element) is }) (ap (λ (q : Pin). q.class) is) (group_dint n i below)
 pin_dint n p inside (OfFixed i below is from) = DeclaredPin inside (ap (λ (q : Pin). q.class) is)
@@ -158,6 +162,7 @@ typed n e h = by (form_case n e)
     by (OfSum i below at is) = h.none ty.Dint (subst (λ m. HasType (sheet n) (AtGroup m) ty.Dint) (sym at) (group_dint n i below))
     by (OfTarget is) = h.shares (ap (λ (f : Form). f.grouping) is)
 
+-- additions allow DINT
 dint_is_allowed : (n e : ℕ) (allowed : Allowed) → FormCase n e → (form_at (sheet n) e).grouping ≡ Function allowed → is_allowed allowed ty.Dint ≡ true
 dint_is_allowed n e allowed (OfValue is) g = let none = ap (λ (f : Form). f.grouping) is in cc
 dint_is_allowed n e allowed (OfSum i below at is) g =
@@ -222,4 +227,6 @@ types_kept n small = Next (kept rule.NoType) (Next (kept rule.Disagreement) (Nex
     none r e breaks = none_breaks n r e (subst (λ (s : Sheet). BreaksIn r s e) (sheet_is n small) breaks)
 
     kept : (r : TypeRule) → Never (BreaksTyping (pous n) (links_of (pous n)) r) [] (items_of (pous n))
-    kept r = never n (λ (x : Item). BreaksIn r (sheet_at (pous n) (links_of (pous n)) x.pou x.owner) x.place) (λ i p below at. none r p) (λ i p below at. none r p) (λ i p below at. none r p) (λ i p below at. none r p)
+    kept r =
+        never n (λ (x : Item). BreaksIn r (sheet_at (pous n) (links_of (pous n)) x.pou x.owner) x.place)
+        (λ i p below at. none r p) (λ i p below at. none r p) (λ i p below at. none r p) (λ i p below at. none r p)
