@@ -155,3 +155,59 @@ empty-stands name pairs n h = record {
   events = λ at. sym (element-events name pairs [] at (tag name pairs (47 ∷ (62 ∷ []))));
   joins = λ at. subst Joins (sym (element-events name pairs [] at (tag name pairs (47 ∷ (62 ∷ []))))) (joins-framed name (attributes_at (at + 1 + length name) pairs) at (at + length (tag name pairs (47 ∷ (62 ∷ [])))) [] (λ before. sym (append-nil before)));
 }
+
+-- a piece that stands inside of an element
+record Inside (p : Piece) : Type 0 where
+  tokens : ℕ → List Token
+  spelled : (at : ℕ) (rest : List ℕ) → AreTokens at (p.bytes ++ (60 ∷ rest)) (tokens at) (60 ∷ rest)
+  events : (at : ℕ) → flat_map token_events (tokens at) ≡ flat_map events_of (p.nodes at)
+  joins : (at : ℕ) (name : List ℕ) (attributes : List Attribute) (start end : ℕ) → Joins (framed name attributes start end (flat_map events_of (p.nodes at)))
+
+inside-stands : (name : List ℕ) (pairs : List Pair) (p : Piece) → IsName name → ArePairs pairs → Inside p → Stands (element name pairs p)
+inside-stands name pairs p n h g = record {
+  tokens = λ at. begun at name pairs ∷ (g.tokens (at + length (start_tag name pairs)) ++ ended (at + length (start_tag name pairs) + length p.bytes) name ∷ []);
+  spelled = λ at rest.
+    let k = at + length (start_tag name pairs) in
+    let around_it = append_assoc (start_tag name pairs) (p.bytes ++ end_tag name) rest ∙ ap (λ (xs : List ℕ). start_tag name pairs ++ xs) (append_assoc p.bytes (end_tag name) rest) in
+    let behind = p.bytes ++ (end_tag name ++ rest) in
+    let n1 = length-append p.bytes (end_tag name ++ rest) in
+    subst (λ (xs : List ℕ). AreTokens at xs (begun at name pairs ∷ (g.tokens k ++ ended (k + length p.bytes) name ∷ [])) rest) (sym around_it)
+      (behind, begins at name pairs behind n h, tokens-append (g.tokens k) (ended (k + length p.bytes) name ∷ []) k (k + length p.bytes) behind (end_tag name ++ rest) rest (g.spelled k (47 ∷ (name ++ (62 ∷ [])) ++ rest)) (omega arith) (rest, ends (k + length p.bytes) name rest n, refl));
+  events = λ at.
+    let k = at + length (start_tag name pairs) in
+    let a = length-append (start_tag name pairs) (p.bytes ++ end_tag name) in
+    let b = length-append p.bytes (end_tag name) in
+    let e : k + length p.bytes + length (end_tag name) ≡ at + length (around name pairs p.bytes) = omega arith in
+    ap (λ (es : List Event). Begin name (attributes_at (at + 1 + length name) pairs) at ∷ es) (flat_map-append token_events (g.tokens k) (ended (k + length p.bytes) name ∷ []))
+    ∙ (ap (λ (es : List Event). framed name (attributes_at (at + 1 + length name) pairs) at (k + length p.bytes + length (end_tag name)) es) (g.events k)
+    ∙ (ap (λ (end : ℕ). framed name (attributes_at (at + 1 + length name) pairs) at end (flat_map events_of (p.nodes k))) e
+    ∙ sym (element-events name pairs (p.nodes k) at (around name pairs p.bytes))));
+  joins = λ at. subst Joins (sym (element-events name pairs (p.nodes (at + length (start_tag name pairs))) at (around name pairs p.bytes))) (g.joins (at + length (start_tag name pairs)) name (attributes_at (at + 1 + length name) pairs) at (at + length (around name pairs p.bytes)));
+}
+
+pub element-stands : (name : List ℕ) (pairs : List Pair) (p : Piece) → IsName name → ArePairs pairs → Stands p → Stands (element name pairs p)
+element-stands name pairs p n h g = inside-stands name pairs p n h (record {
+  tokens = g.tokens;
+  spelled = λ at rest. g.spelled at (60 ∷ rest);
+  events = g.events;
+  joins = λ at name_ attributes start end. joins-framed name_ attributes start end (flat_map events_of (p.nodes at)) (g.joins at);
+})
+
+words-events : (text : List ℕ) (s : Span) → flat_map events_of ((words text).nodes s.start) ≡ Chars text (span_from s.start (length text)) ∷ []
+words-events text s = append-nil _ ∙ node-text (record { value = text; span = span_from s.start (length text) })
+
+words-inside : (text : List ℕ) → 0 < length text → list_all is_text text ≡ true → Inside (words text)
+words-inside text some plain = record {
+  tokens = λ at. record { kind = kind.Text text; span = span_from at (length text) } ∷ [];
+  spelled = λ at rest. (60 ∷ rest, record { text = text; spelled = (refl, some, plain); whole = refl; split = refl; spanned = refl }, refl);
+  events = λ at. sym (words-events text (record { start = at; end = at }));
+  joins = λ at name attributes start end. subst (λ (es : List Event). Joins (framed name attributes start end es)) (sym (words-events text (record { start = at; end = at })))
+    (joins-append (Begin name attributes start ∷ (Chars text (span_from at (length text)) ∷ [])) (End name end ∷ []) (joins-words name attributes start text (span_from at (length text))) (joins-end name end));
+}
+
+pub words-stand : (name : List ℕ) (pairs : List Pair) (text : List ℕ) → IsName name → ArePairs pairs → 0 < length text → list_all is_text text ≡ true → Stands (element name pairs (words text))
+words-stand name pairs text n h some plain = inside-stands name pairs (words text) n h (words-inside text some plain)
+
+pub row-stands : {A : Type 0} (f : A → Piece) → ((x : A) → Stands (f x)) → (xs : List A) → Stands (in_a_row (map f xs))
+row-stands f h [] = nothing-stands
+row-stands f h (x ∷ xs) = both-stand (f x) (in_a_row (map f xs)) (h x) (row-stands f h xs)
