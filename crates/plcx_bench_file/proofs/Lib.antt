@@ -1,2 +1,3 @@
 pub mod Stands
-pub mod Try
+pub mod Digits
+pub mod Ring
