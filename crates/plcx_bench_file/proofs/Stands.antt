@@ -207,7 +207,3 @@ words-inside text some plain = record {
 
 pub words-stand : (name : List ℕ) (pairs : List Pair) (text : List ℕ) → IsName name → ArePairs pairs → 0 < length text → list_all is_text text ≡ true → Stands (element name pairs (words text))
 words-stand name pairs text n h some plain = inside-stands name pairs (words text) n h (words-inside text some plain)
-
-pub row-stands : {A : Type 0} (f : A → Piece) → ((x : A) → Stands (f x)) → (xs : List A) → Stands (in_a_row (map f xs))
-row-stands f h [] = nothing-stands
-row-stands f h (x ∷ xs) = both-stand (f x) (in_a_row (map f xs)) (h x) (row-stands f h xs)
