@@ -1,5 +1,5 @@
 -- The tree of the file breaks no rule on its form.
-use Rattle.std.proofs.Common.{◌≡◌, ◌≤◌, ◌<◌, ◌+◌, ◌*◌, ◌%◌, ◌^◌, ℕ, zero, suc, Bool, true, false, List, [], ◌∷◌, ◌++◌, length, map, refl, ap, sym, subst, ◌∙◌, arith, Some, None}
+use Rattle.std.proofs.Common.{◌≡◌, ◌≤◌, ◌<◌, ◌+◌, ◌*◌, ◌%◌, ◌^◌, ℕ, zero, suc, Bool, true, false, List, [], ◌∷◌, ◌++◌, length, map, refl, ap, sym, subst, ◌∙◌, arith, Some, None, append_assoc, append-nil}
 use Rattle.std.specs.Prelude.{codes, pos, ℤ}
 use Rattle.plcx_xml.specs.declared.tree.Node.{Node, roll-Node, out-Node, out-roll-Node}
 use Rattle.plcx_xml.specs.declared.tree.Element.{Element}
@@ -7,11 +7,15 @@ use Rattle.plcx_table.specs.declared.row.Row.{Row}
 use Rattle.plcx_table.specs.declared.row.Row.TheVariants.{Diagram, VariableList}
 use Rattle.plcx_table.specs.declared.row.Fate.{Fate}
 use Rattle.plcx_table.specs.declared.row.Fate.TheVariants.{Read}
+use Rattle.plcx_table.specs.declared.row.Taken.{Taken}
+use Rattle.plcx_table.specs.declared.limits.Counts.{Counts}
+use Rattle.plcx_table.specs.Limits.{no_counts, counts_in, with_fate, is_too_much, IsFew}
+use Rattle.std.proofs.lemmas.Bool.{le-ltb}
 use Rattle.plcx_table.specs.Number.{number_of, coordinate_of, magnitude_of, is_decimal, digits_behind}
-use Rattle.plcx_table.specs.Walk.{Item, items, items_below, none_taken, fate_of, taken_with, child_for, is_aside, has_text, has_prefix, values_of}
+use Rattle.plcx_table.specs.Walk.{Item, at_node, taken_behind, items, items_below, none_taken, fate_of, taken_with, child_for, is_aside, has_text, has_prefix, values_of}
 use Rattle.plcx_table.specs.Rules.{breaks_structure, breaks_attributes, lacks_child, taken_by, has_stray_text, has_bad_field, has_bad_namespace, has_form}
 use Rattle.plcx_table.specs.Constructs.{is_left_out}
-use Rattle.plcx_bench_file.specs.Markup.{Piece, Pair}
+use Rattle.plcx_bench_file.specs.Markup.{Piece, Pair, nothing, both, in_a_row}
 use Rattle.plcx_bench_file.specs.File.{input, addition, output, four, declaration}
 
 -- an element that breaks none of the rules that look at it alone
@@ -69,3 +73,155 @@ declaration-good namespace at name = simp out-roll-Node (
     (record { structure = simp out-roll-Node; attributes = refl; constructs = λ r d. refl },
     (record { structure = refl; attributes = refl; constructs = λ r d. refl },
     tt))))
+
+good-append : (namespace : List ℕ) (xs ys : List Item) → AllGood namespace xs → AllGood namespace ys → AllGood namespace (xs ++ ys)
+good-append namespace [] ys h g = g
+good-append namespace (x ∷ xs) ys h g = (h.0, good-append namespace xs ys h.1 g)
+
+-- the seats that are taken behind parts
+abbrev taken_through : Row → Taken → List Node → Taken
+taken_through row t [] = t
+taken_through row t (n ∷ ns) = taken_through row (taken_behind row t (out-Node n)) ns
+
+through-append : (row : Row) (t : Taken) (xs ys : List Node) → taken_through row t (xs ++ ys) ≡ taken_through row (taken_through row t xs) ys
+through-append row t [] ys = refl
+through-append row t (x ∷ xs) ys = through-append row (taken_behind row t (out-Node x)) xs ys
+
+below-append : (row : Row) (t : Taken) (xs ys : List Node) → items_below (items 58) row t (xs ++ ys) ≡ items_below (items 58) row t xs ++ items_below (items 58) row (taken_through row t xs) ys
+unfolding items_below
+below-append row t [] ys = refl
+below-append row t (x ∷ xs) ys =
+    ap (λ (more : List Item). at_node (items 58) row t (out-Node x) ++ more) (below-append row (taken_behind row t (out-Node x)) xs ys)
+    ∙ sym (append_assoc (at_node (items 58) row t (out-Node x)) (items_below (items 58) row (taken_behind row t (out-Node x)) xs) (items_below (items 58) row (taken_through row (taken_behind row t (out-Node x)) xs) ys))
+
+-- what is looked at in a piece
+abbrev pub found : Row → Piece → ℕ → List Item
+found row p at = items_below (items 58) row none_taken (p.nodes at)
+
+-- a piece that takes no seat
+record IsFree (row : Row) (p : Piece) : Type 0 where
+  free : (at : ℕ) → taken_through row none_taken (p.nodes at) ≡ none_taken
+
+both-free : (row : Row) (p q : Piece) → IsFree row p → IsFree row q → IsFree row (both p q)
+both-free row p q h g = record { free = λ at. through-append row none_taken (p.nodes at) (q.nodes (at + length p.bytes)) ∙ (ap (λ (t : Taken). taken_through row t (q.nodes (at + length p.bytes))) (h.free at) ∙ g.free (at + length p.bytes)) }
+
+found-both : (row : Row) (p q : Piece) (at : ℕ) → IsFree row p → found row (both p q) at ≡ found row p at ++ found row q (at + length p.bytes)
+found-both row p q at h = below-append row none_taken (p.nodes at) (q.nodes (at + length p.bytes)) ∙ ap (λ (t : Taken). found row p at ++ items_below (items 58) row t (q.nodes (at + length p.bytes))) (h.free at)
+
+-- pieces whose elements are all good
+record IsGoodPiece (namespace : List ℕ) (row : Row) (p : Piece) : Type 0 where
+  free : IsFree row p
+  good : (at : ℕ) → AllGood namespace (found row p at)
+
+both-good : (namespace : List ℕ) (row : Row) (p q : Piece) → IsGoodPiece namespace row p → IsGoodPiece namespace row q → IsGoodPiece namespace row (both p q)
+both-good namespace row p q h g = record {
+  free = both-free row p q h.free g.free;
+  good = λ at. subst (AllGood namespace) (sym (found-both row p q at h.free)) (good-append namespace (found row p at) (found row q (at + length p.bytes)) (h.good at) (g.good (at + length p.bytes)));
+}
+
+nothing-good : (namespace : List ℕ) (row : Row) → IsGoodPiece namespace row nothing
+unfolding items_below
+nothing-good namespace row = record { free = record { free = λ at. refl }; good = λ at. tt }
+
+input-free : (id y text : List ℕ) → IsFree Diagram (input id y text)
+unfolding taken_with child_for is_aside
+input-free id y text = record { free = λ at. simp out-roll-Node }
+
+addition-free : (id y left right : List ℕ) → IsFree Diagram (addition id y left right)
+unfolding taken_with child_for is_aside
+addition-free id y left right = record { free = λ at. simp out-roll-Node }
+
+output-free : (id y sum text : List ℕ) → IsFree Diagram (output id y sum text)
+unfolding taken_with child_for is_aside
+output-free id y sum text = record { free = λ at. simp out-roll-Node }
+
+declaration-free : (name : List ℕ) → IsFree VariableList (declaration name)
+unfolding taken_with child_for is_aside
+declaration-free name = record { free = λ at. simp out-roll-Node }
+
+-- texts of numbers, and of a coordinate
+record AreNumbers (one two three last y : List ℕ) : Type 0 where
+  k1 : ℕ
+  k2 : ℕ
+  k3 : ℕ
+  k4 : ℕ
+  z : ℤ
+  one_is : number_of one ≡ Some k1
+  two_is : number_of two ≡ Some k2
+  three_is : number_of three ≡ Some k3
+  last_is : number_of last ≡ Some k4
+  y_is : coordinate_of y ≡ Some z
+
+four-good : (namespace : List ℕ) (one two three last y name next : List ℕ) → AreNumbers one two three last y → IsGoodPiece namespace Diagram (four one two three last y name next)
+four-good namespace one two three last y name next h =
+    let p1 = input one y name in
+    let p2 = input two y (codes "DINT#1") in
+    let p3 = addition three y one two in
+    let p4 = output last y three next in
+    both-good namespace Diagram p1 (both p2 (both p3 p4)) (record { free = input-free one y name; good = λ at. input-good namespace at one y name h.k1 h.z h.one_is h.y_is })
+      (both-good namespace Diagram p2 (both p3 p4) (record { free = input-free two y (codes "DINT#1"); good = λ at. input-good namespace at two y (codes "DINT#1") h.k2 h.z h.two_is h.y_is })
+        (both-good namespace Diagram p3 p4 (record { free = addition-free three y one two; good = λ at. addition-good namespace at three y one two h.k3 h.k1 h.k2 h.z h.three_is h.one_is h.two_is h.y_is })
+          (record { free = output-free last y three next; good = λ at. output-good namespace at last y three next h.k4 h.k3 h.z h.last_is h.three_is h.y_is })))
+
+-- what is counted behind items, and that it is never too much
+abbrev after : Counts → List Item → Counts
+after c [] = c
+after c (x ∷ xs) = after (with_fate x.fate c) xs
+
+abbrev Few : Counts → List Item → Type 0
+Few c [] = Unit {0}
+Few c (x ∷ xs) = (is_too_much (with_fate x.fate c) ≡ false) × Few (with_fate x.fate c) xs
+
+after-append : (xs ys : List Item) (c : Counts) → after c (xs ++ ys) ≡ after (after c xs) ys
+after-append [] ys c = refl
+after-append (x ∷ xs) ys c = after-append xs ys (with_fate x.fate c)
+
+few-append : (xs ys : List Item) (c : Counts) → Few c xs → Few (after c xs) ys → Few c (xs ++ ys)
+few-append [] ys c h g = g
+few-append (x ∷ xs) ys c h g = (h.0, few-append xs ys (with_fate x.fate c) h.1 g)
+
+few : (c : Counts) → IsFew c → is_too_much c ≡ false
+unfolding is_too_much
+few c h = rw (le-ltb 256 c.pous h.pous, le-ltb 4096 c.variables h.variables, le-ltb 4096 c.elements h.elements, le-ltb 16384 c.connections h.connections, le-ltb 64 c.pin_connections h.pin_connections, le-ltb 64 c.pins h.pins) refl
+
+-- at most so much of each
+record UpTo (v e k : ℕ) (c : Counts) : Type 0 where
+  pous : c.pous ≤ 256
+  variables : c.variables ≤ v
+  elements : c.elements ≤ e
+  connections : c.connections ≤ k
+  pin_connections : c.pin_connections ≤ 64
+  pins : c.pins ≤ 64
+
+declaration-few : (v : ℕ) (c : Counts) (name : List ℕ) (at : ℕ) → UpTo v 0 0 c → v < 4096 → Few c (found VariableList (declaration name) at)
+unfolding items items_below fate_of taken_with child_for is_aside has_prefix
+declaration-few v c name at h lt = simp out-roll-Node (few _ (omega arith), (few _ (omega arith), (few _ (omega arith), tt)))
+
+declaration-after : (v : ℕ) (c : Counts) (name : List ℕ) (at : ℕ) → UpTo v 0 0 c → v < 4096 → UpTo (v + 1) 0 0 (after c (found VariableList (declaration name) at))
+unfolding items items_below fate_of taken_with child_for is_aside has_prefix
+declaration-after v c name at h lt = simp out-roll-Node (omega arith)
+
+input-few : (e k : ℕ) (c : Counts) (id y text : List ℕ) (at : ℕ) → UpTo 4096 e k c → e < 4096 → k ≤ 16384 → Few c (found Diagram (input id y text) at)
+unfolding items items_below fate_of taken_with child_for is_aside has_prefix
+input-few e k c id y text at h lt le = simp out-roll-Node (few _ (omega arith), (few _ (omega arith), (few _ (omega arith), tt)))
+
+input-after : (e k : ℕ) (c : Counts) (id y text : List ℕ) (at : ℕ) → UpTo 4096 e k c → UpTo 4096 (e + 1) k (after c (found Diagram (input id y text) at))
+unfolding items items_below fate_of taken_with child_for is_aside has_prefix
+input-after e k c id y text at h = simp out-roll-Node (omega arith)
+
+addition-few : (e k : ℕ) (c : Counts) (id y left right : List ℕ) (at : ℕ) → UpTo 4096 e k c → e < 4096 → k + 2 ≤ 16384 → Few c (found Diagram (addition id y left right) at)
+unfolding items items_below fate_of taken_with child_for is_aside has_prefix
+addition-few e k c id y left right at h lt le = simp out-roll-Node (few _ (omega arith), (few _ (omega arith), (few _ (omega arith), (few _ (omega arith), (few _ (omega arith), (few _ (omega arith),
+    (few _ (omega arith), (few _ (omega arith), (few _ (omega arith), (few _ (omega arith), (few _ (omega arith), tt)))))))))))
+
+addition-after : (e k : ℕ) (c : Counts) (id y left right : List ℕ) (at : ℕ) → UpTo 4096 e k c → UpTo 4096 (e + 1) (k + 2) (after c (found Diagram (addition id y left right) at))
+unfolding items items_below fate_of taken_with child_for is_aside has_prefix
+addition-after e k c id y left right at h = simp out-roll-Node (omega arith)
+
+output-few : (e k : ℕ) (c : Counts) (id y sum text : List ℕ) (at : ℕ) → UpTo 4096 e k c → e < 4096 → k < 16384 → Few c (found Diagram (output id y sum text) at)
+unfolding items items_below fate_of taken_with child_for is_aside has_prefix
+output-few e k c id y sum text at h lt le = simp out-roll-Node (few _ (omega arith), (few _ (omega arith), (few _ (omega arith), (few _ (omega arith), (few _ (omega arith), tt)))))
+
+output-after : (e k : ℕ) (c : Counts) (id y sum text : List ℕ) (at : ℕ) → UpTo 4096 e k c → UpTo 4096 (e + 1) (k + 1) (after c (found Diagram (output id y sum text) at))
+unfolding items items_below fate_of taken_with child_for is_aside has_prefix
+output-after e k c id y sum text at h = simp out-roll-Node (omega arith)
