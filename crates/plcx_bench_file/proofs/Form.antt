@@ -1,10 +1,13 @@
 -- The tree of the file breaks no rule on its form.
 use Rattle.std.proofs.Common.{◌≡◌, ◌≤◌, ◌<◌, ◌+◌, ◌*◌, ◌%◌, ◌^◌, ℕ, zero, suc, Bool, true, false, List, [], ◌∷◌, ◌++◌, length, map, refl, ap, sym, subst, ◌∙◌, arith, Some, None, append_assoc, append-nil}
-use Rattle.std.specs.Prelude.{codes, pos, ℤ}
+use Rattle.std.specs.Prelude.{codes, pos, ℤ, ◌||◌}
+use Rattle.std.specs.List.{range_with_len, list_any}
+use Rattle.plcx_bench_project.specs.Bench.{variable_name}
+use Rattle.plcx_table.specs.Format.{looked_at, root_fate}
 use Rattle.plcx_xml.specs.declared.tree.Node.{Node, roll-Node, out-Node, out-roll-Node}
 use Rattle.plcx_xml.specs.declared.tree.Element.{Element}
 use Rattle.plcx_table.specs.declared.row.Row.{Row}
-use Rattle.plcx_table.specs.declared.row.Row.TheVariants.{Diagram, VariableList}
+use Rattle.plcx_table.specs.declared.row.Row.TheVariants.{Body, Diagram, VariableList}
 use Rattle.plcx_table.specs.declared.row.Fate.{Fate}
 use Rattle.plcx_table.specs.declared.row.Fate.TheVariants.{Read}
 use Rattle.plcx_table.specs.declared.row.Taken.{Taken}
@@ -12,11 +15,11 @@ use Rattle.plcx_table.specs.declared.limits.Counts.{Counts}
 use Rattle.plcx_table.specs.Limits.{no_counts, counts_in, with_fate, is_too_much, IsFew}
 use Rattle.std.proofs.lemmas.Bool.{le-ltb}
 use Rattle.plcx_table.specs.Number.{number_of, coordinate_of, magnitude_of, is_decimal, digits_behind}
-use Rattle.plcx_table.specs.Walk.{Item, at_node, taken_behind, items, items_below, none_taken, fate_of, taken_with, child_for, is_aside, has_text, has_prefix, values_of}
+use Rattle.plcx_table.specs.Walk.{Item, is_nonblank, at_node, taken_behind, items, items_below, none_taken, fate_of, taken_with, child_for, is_aside, has_text, has_prefix, values_of}
 use Rattle.plcx_table.specs.Rules.{breaks_structure, breaks_attributes, lacks_child, taken_by, has_stray_text, has_bad_field, has_bad_namespace, has_form}
 use Rattle.plcx_table.specs.Constructs.{is_left_out}
-use Rattle.plcx_bench_file.specs.Markup.{Piece, Pair, nothing, both, in_a_row}
-use Rattle.plcx_bench_file.specs.File.{input, addition, output, four, declaration}
+use Rattle.plcx_bench_file.specs.Markup.{Piece, Pair, node_of, nothing, both, in_a_row}
+use Rattle.plcx_bench_file.specs.File.{input, addition, output, four, network, declaration, root}
 
 -- an element that breaks none of the rules that look at it alone
 record IsGood (namespace : List ℕ) (x : Item) : Type 0 where
@@ -225,3 +228,128 @@ output-few e k c id y sum text at h lt le = simp out-roll-Node (few _ (omega ari
 output-after : (e k : ℕ) (c : Counts) (id y sum text : List ℕ) (at : ℕ) → UpTo 4096 e k c → UpTo 4096 (e + 1) (k + 1) (after c (found Diagram (output id y sum text) at))
 unfolding items items_below fate_of taken_with child_for is_aside has_prefix
 output-after e k c id y sum text at h = simp out-roll-Node (omega arith)
+
+-- what a piece of a diagram adds to the elements and connections
+record Draws (a b : ℕ) (p : Piece) : Type 0 where
+  free : IsFree Diagram p
+  step : (e k : ℕ) (c : Counts) (at : ℕ) → UpTo 4096 e k c → e + a ≤ 4096 → k + b ≤ 16384 → Few c (found Diagram p at) × UpTo 4096 (e + a) (k + b) (after c (found Diagram p at))
+
+both-draw : (a b a_more b_more : ℕ) (p q : Piece) → Draws a b p → Draws a_more b_more q → Draws (a + a_more) (b + b_more) (both p q)
+both-draw a b a_more b_more p q h g = record {
+  free = both-free Diagram p q h.free g.free;
+  step = λ e k c at u le lb.
+    let first = h.step e k c at u (omega arith) (omega arith) in
+    let xs = found Diagram p at in
+    let ys = found Diagram q (at + length p.bytes) in
+    let second = g.step (e + a) (k + b) (after c xs) (at + length p.bytes) first.1 (omega arith) (omega arith) in
+    let up = second.1 in
+    rw (found-both Diagram p q at h.free) (few-append xs ys c first.0 second.0, rw (after-append xs ys c) (omega arith));
+}
+
+nothing-draws : Draws 0 0 nothing
+unfolding items_below
+nothing-draws = record { free = record { free = λ at. refl }; step = λ e k c at u le lb. (tt, omega arith) }
+
+input-draws : (id y text : List ℕ) → Draws 1 0 (input id y text)
+input-draws id y text = record { free = input-free id y text; step = λ e k c at u le lb.
+    let up = input-after e k c id y text at u in
+    (input-few e k c id y text at u (omega arith) (omega arith), omega arith) }
+
+addition-draws : (id y left right : List ℕ) → Draws 1 2 (addition id y left right)
+addition-draws id y left right = record { free = addition-free id y left right; step = λ e k c at u le lb. (addition-few e k c id y left right at u (omega arith) lb, addition-after e k c id y left right at u) }
+
+output-draws : (id y sum text : List ℕ) → Draws 1 1 (output id y sum text)
+output-draws id y sum text = record { free = output-free id y sum text; step = λ e k c at u le lb. (output-few e k c id y sum text at u (omega arith) (omega arith), output-after e k c id y sum text at u) }
+
+four-draws : (one two three last y name next : List ℕ) → Draws 4 3 (four one two three last y name next)
+four-draws one two three last y name next =
+    let p1 = input one y name in
+    let p2 = input two y (codes "DINT#1") in
+    let p3 = addition three y one two in
+    let p4 = output last y three next in
+    both-draw 1 0 3 3 p1 (both p2 (both p3 p4)) (input-draws one y name)
+      (both-draw 1 0 2 3 p2 (both p3 p4) (input-draws two y (codes "DINT#1")) (both-draw 1 2 1 1 p3 p4 (addition-draws three y one two) (output-draws last y three next)))
+
+networks-draw : (n m a : ℕ) → Draws (m * 4) (m * 3) (in_a_row (map (network n) (range_with_len a m)))
+networks-draw n zero a = nothing-draws
+networks-draw n (suc m) a =
+    let rest = in_a_row (map (network n) (range_with_len (a + 1) m)) in
+    let e : 4 + m * 4 ≡ suc m * 4 = omega arith in
+    let k : 3 + m * 3 ≡ suc m * 3 = omega arith in
+    subst (λ (x : ℕ). Draws x (suc m * 3) (both (network n a) rest)) e (subst (λ (x : ℕ). Draws (4 + m * 4) x (both (network n a) rest)) k
+      (both-draw 4 3 (m * 4) (m * 3) (network n a) rest (four-draws _ _ _ _ _ _ _) (networks-draw n m (a + 1))))
+
+-- what a piece of a list adds to the variables
+record Lists (m : ℕ) (p : Piece) : Type 0 where
+  free : IsFree VariableList p
+  step : (v : ℕ) (c : Counts) (at : ℕ) → UpTo v 0 0 c → v + m ≤ 4096 → Few c (found VariableList p at) × UpTo (v + m) 0 0 (after c (found VariableList p at))
+
+declarations-list : (m a : ℕ) → Lists m (in_a_row (map (λ i. declaration (variable_name i)) (range_with_len a m)))
+unfolding items_below
+declarations-list zero a = record { free = record { free = λ at. refl }; step = λ v c at u le. (tt, omega arith) }
+declarations-list (suc m) a = record {
+  free = both-free VariableList (declaration (variable_name a)) (in_a_row (map (λ i. declaration (variable_name i)) (range_with_len (a + 1) m))) (declaration-free (variable_name a)) (declarations-list m (a + 1)).free;
+  step = λ v c at u le.
+    let p = declaration (variable_name a) in
+    let q = in_a_row (map (λ i. declaration (variable_name i)) (range_with_len (a + 1) m)) in
+    let xs = found VariableList p at in
+    let ys = found VariableList q (at + length p.bytes) in
+    let first = declaration-after v c (variable_name a) at u (omega arith) in
+    let second = (declarations-list m (a + 1)).step (v + 1) (after c xs) (at + length p.bytes) first (omega arith) in
+    let up = second.1 in
+    rw (found-both VariableList p q at (declaration-free (variable_name a))) (few-append xs ys c (declaration-few v c (variable_name a) at u (omega arith)) second.0, rw (after-append xs ys c) (omega arith));
+}
+
+below-one : (inner : Fate → Element → List Item) (row : Row) (e : Element) → items_below inner row none_taken (node_of e ∷ []) ≡ inner (fate_of row none_taken e) e
+unfolding items_below
+below-one inner row e = simp out-roll-Node (append-nil (inner (fate_of row none_taken e) e))
+
+below-two : (inner : Fate → Element → List Item) (row : Row) (e f : Element) → items_below inner row none_taken (node_of e ∷ (node_of f ∷ [])) ≡ inner (fate_of row none_taken e) e ++ inner (fate_of row (taken_with row none_taken e) f) f
+unfolding items_below
+below-two inner row e f = simp out-roll-Node (ap (λ (xs : List Item). inner (fate_of row none_taken e) e ++ xs) (append-nil (inner (fate_of row (taken_with row none_taken e) f) f)))
+
+abbrev at_lists : Counts
+at_lists = record { pous = 1; variables = 0; elements = 0; connections = 0; pin_connections = 0; pins = 0 }
+
+-- the two rows, and what stands between them
+abbrev rows : Piece → Piece → ℕ → ℕ → Element → Element → List Item
+rows variables body at_variables at_body e f = found VariableList variables at_variables ++ (record { fate = Read Body; element = e } ∷ (record { fate = Read Diagram; element = f } ∷ found Diagram body at_body))
+
+rows-few : (variables body : Piece) (n at_variables at_body : ℕ) (e f : Element) → n ≤ 1000 → Lists n variables → Draws (n * 4) (n * 3) body → Few at_lists (rows variables body at_variables at_body e f)
+rows-few variables body n at_variables at_body e f le l d =
+    let h = l.step 0 at_lists at_variables (omega arith) (omega arith) in
+    let c = after at_lists (found VariableList variables at_variables) in
+    let more = h.1 in
+    let c2 = with_fate (Read Diagram) (with_fate (Read Body) c) in
+    few-append (found VariableList variables at_variables) _ at_lists h.0 (few _ (omega arith), (few _ (omega arith), (d.step 0 0 c2 at_body (omega arith) (omega arith) (omega arith)).0))
+
+root-few : (variables body : Piece) (n : ℕ) → n ≤ 1000 → Lists n variables → Draws (n * 4) (n * 3) body → Few no_counts (looked_at (root variables body))
+unfolding items fate_of taken_with child_for is_aside has_prefix looked_at root_fate values_of
+root-few variables body n le l d =
+    simp (below-one, below-two) (few _ (omega arith), (few _ (omega arith), (few _ (omega arith), (few _ (omega arith), (few _ (omega arith), (few _ (omega arith), rows-few variables body n _ _ _ _ le l d))))))
+
+rows-good : (namespace : List ℕ) (variables body : Piece) (at_variables at_body : ℕ) (e f : Element) → IsGoodPiece namespace VariableList variables → IsGoodPiece namespace Diagram body → IsGood namespace (record { fate = Read Body; element = e }) → IsGood namespace (record { fate = Read Diagram; element = f }) → AllGood namespace (rows variables body at_variables at_body e f)
+rows-good namespace variables body at_variables at_body e f h g he hf =
+    good-append namespace (found VariableList variables at_variables) _ (h.good at_variables) (he, (hf, g.good at_body))
+
+-- what no text stands in
+no-text-append : (xs ys : List Node) → list_any (λ (n : Node). is_nonblank (out-Node n)) xs ≡ false → list_any (λ (n : Node). is_nonblank (out-Node n)) ys ≡ false → list_any (λ (n : Node). is_nonblank (out-Node n)) (xs ++ ys) ≡ false
+no-text-append [] ys h g = g
+no-text-append (x ∷ xs) ys h g = of (is_nonblank (out-Node x)) refl h
+  where
+    of : (b : Bool) → is_nonblank (out-Node x) ≡ b → (b || list_any (λ (n : Node). is_nonblank (out-Node n)) xs) ≡ false → (is_nonblank (out-Node x) || list_any (λ (n : Node). is_nonblank (out-Node n)) (xs ++ ys)) ≡ false
+    of true e k = cc
+    of false e k = rw e (no-text-append xs ys k g)
+
+root-good : (variables body : Piece) → IsGoodPiece (codes "http://www.plcopen.org/xml/tc6_0201") VariableList variables → IsGoodPiece (codes "http://www.plcopen.org/xml/tc6_0201") Diagram body → AllGood (codes "http://www.plcopen.org/xml/tc6_0201") (looked_at (root variables body))
+unfolding items fate_of taken_with child_for is_aside has_prefix looked_at root_fate lacks_child taken_by has_stray_text has_text has_bad_field has_bad_namespace values_of has_form
+root-good variables body h g = simp (below-one, below-two) (
+    record { structure = simp out-roll-Node; attributes = refl; constructs = λ r d. refl },
+    (record { structure = simp out-roll-Node; attributes = refl; constructs = λ r d. refl },
+    (record { structure = simp out-roll-Node; attributes = refl; constructs = λ r d. refl },
+    (record { structure = simp out-roll-Node; attributes = refl; constructs = λ r d. refl },
+    (record { structure = simp out-roll-Node; attributes = refl; constructs = λ r d. refl },
+    (record { structure = ?; attributes = refl; constructs = λ r d. refl },
+    rows-good (codes "http://www.plcopen.org/xml/tc6_0201") variables body _ _ _ _ h g
+      (record { structure = simp out-roll-Node; attributes = refl; constructs = λ r d. refl })
+      (record { structure = ?; attributes = refl; constructs = λ r d. refl })))))))
