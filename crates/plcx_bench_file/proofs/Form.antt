@@ -2,8 +2,8 @@
 use Rattle.std.proofs.Common.{◌≡◌, ◌≤◌, ◌<◌, ◌+◌, ◌*◌, ◌%◌, ◌^◌, ℕ, zero, suc, Bool, true, false, List, [], ◌∷◌, ◌++◌, length, map, refl, ap, sym, subst, ◌∙◌, arith, Some, None, append_assoc, append-nil}
 use Rattle.std.specs.Prelude.{codes, pos, ℤ, ◌||◌}
 use Rattle.std.specs.List.{range_with_len, list_any}
-use Rattle.plcx_bench_project.specs.Bench.{variable_name}
-use Rattle.plcx_table.specs.Format.{looked_at, root_fate}
+use Rattle.plcx_bench_project.specs.Bench.{IsMeasured, variable_name, id_in}
+use Rattle.plcx_table.specs.Format.{looked_at, root_fate, breaks, Breaks, FormatVerdict}
 use Rattle.plcx_xml.specs.declared.tree.Node.{Node, roll-Node, out-Node, out-roll-Node}
 use Rattle.plcx_xml.specs.declared.tree.Element.{Element}
 use Rattle.plcx_table.specs.declared.row.Row.{Row}
@@ -17,9 +17,14 @@ use Rattle.std.proofs.lemmas.Bool.{le-ltb}
 use Rattle.plcx_table.specs.Number.{number_of, coordinate_of, magnitude_of, is_decimal, digits_behind}
 use Rattle.plcx_table.specs.Walk.{Item, is_nonblank, at_node, taken_behind, items, items_below, none_taken, fate_of, taken_with, child_for, is_aside, has_text, has_prefix, values_of}
 use Rattle.plcx_table.specs.Rules.{breaks_structure, breaks_attributes, lacks_child, taken_by, has_stray_text, has_bad_field, has_bad_namespace, has_form}
-use Rattle.plcx_table.specs.Constructs.{is_left_out}
+use Rattle.plcx_table.specs.Constructs.{is_left_out, attribute_of, referred, diagrams}
+use Rattle.plcx_table.specs.declared.row.FormatRule.TheVariants.{Structure, Attributes, Constructs, Limits}
+use Rattle.plcx_model.specs.Verdict.{Never, Next, Kept}
+use Rattle.std.specs.Fmt.{decimal}
+use Rattle.plcx_bench_file.proofs.Digits.{number-decimal, coordinate-decimal}
+use Rattle.plcx_bench_file.proofs.Ring.{row-holds}
 use Rattle.plcx_bench_file.specs.Markup.{Piece, Pair, node_of, nothing, both, in_a_row}
-use Rattle.plcx_bench_file.specs.File.{input, addition, output, four, network, declaration, root}
+use Rattle.plcx_bench_file.specs.File.{input, addition, output, four, network, networks, declaration, declarations, root, bench_root}
 
 -- an element that breaks none of the rules that look at it alone
 record IsGood (namespace : List ℕ) (x : Item) : Type 0 where
@@ -111,20 +116,39 @@ both-free row p q h g = record { free = λ at. through-append row none_taken (p.
 found-both : (row : Row) (p q : Piece) (at : ℕ) → IsFree row p → found row (both p q) at ≡ found row p at ++ found row q (at + length p.bytes)
 found-both row p q at h = below-append row none_taken (p.nodes at) (q.nodes (at + length p.bytes)) ∙ ap (λ (t : Taken). found row p at ++ items_below (items 58) row t (q.nodes (at + length p.bytes))) (h.free at)
 
+-- what no text stands in
+abbrev no_text : List Node → Bool
+no_text ns = list_any (λ (n : Node). is_nonblank (out-Node n)) ns
+
+none-of : (a b : Bool) → a ≡ false → b ≡ false → (a || b) ≡ false
+none-of a b h g = rw (h, g) refl
+
+either-false : (a b : Bool) → (a || b) ≡ false → (a ≡ false) × (b ≡ false)
+either-false true b h = cc
+either-false false b h = (refl, h)
+
+no-text-append : (xs ys : List Node) → no_text xs ≡ false → no_text ys ≡ false → no_text (xs ++ ys) ≡ false
+no-text-append [] ys h g = g
+no-text-append (x ∷ xs) ys h g =
+    let two = either-false (is_nonblank (out-Node x)) (no_text xs) h in
+    none-of (is_nonblank (out-Node x)) (no_text (xs ++ ys)) two.0 (no-text-append xs ys two.1 g)
+
 -- pieces whose elements are all good
 record IsGoodPiece (namespace : List ℕ) (row : Row) (p : Piece) : Type 0 where
   free : IsFree row p
+  blank : (at : ℕ) → no_text (p.nodes at) ≡ false
   good : (at : ℕ) → AllGood namespace (found row p at)
 
 both-good : (namespace : List ℕ) (row : Row) (p q : Piece) → IsGoodPiece namespace row p → IsGoodPiece namespace row q → IsGoodPiece namespace row (both p q)
 both-good namespace row p q h g = record {
   free = both-free row p q h.free g.free;
+  blank = λ at. no-text-append (p.nodes at) (q.nodes (at + length p.bytes)) (h.blank at) (g.blank (at + length p.bytes));
   good = λ at. subst (AllGood namespace) (sym (found-both row p q at h.free)) (good-append namespace (found row p at) (found row q (at + length p.bytes)) (h.good at) (g.good (at + length p.bytes)));
 }
 
 nothing-good : (namespace : List ℕ) (row : Row) → IsGoodPiece namespace row nothing
 unfolding items_below
-nothing-good namespace row = record { free = record { free = λ at. refl }; good = λ at. tt }
+nothing-good namespace row = record { free = record { free = λ at. refl }; blank = λ at. refl; good = λ at. tt }
 
 input-free : (id y text : List ℕ) → IsFree Diagram (input id y text)
 unfolding taken_with child_for is_aside
@@ -155,16 +179,19 @@ record AreNumbers (one two three last y : List ℕ) : Type 0 where
   last_is : number_of last ≡ Some k4
   y_is : coordinate_of y ≡ Some z
 
+declaration-piece : (namespace name : List ℕ) → IsGoodPiece namespace VariableList (declaration name)
+declaration-piece namespace name = record { free = declaration-free name; blank = λ at. simp out-roll-Node; good = λ at. declaration-good namespace at name }
+
 four-good : (namespace : List ℕ) (one two three last y name next : List ℕ) → AreNumbers one two three last y → IsGoodPiece namespace Diagram (four one two three last y name next)
 four-good namespace one two three last y name next h =
     let p1 = input one y name in
     let p2 = input two y (codes "DINT#1") in
     let p3 = addition three y one two in
     let p4 = output last y three next in
-    both-good namespace Diagram p1 (both p2 (both p3 p4)) (record { free = input-free one y name; good = λ at. input-good namespace at one y name h.k1 h.z h.one_is h.y_is })
-      (both-good namespace Diagram p2 (both p3 p4) (record { free = input-free two y (codes "DINT#1"); good = λ at. input-good namespace at two y (codes "DINT#1") h.k2 h.z h.two_is h.y_is })
-        (both-good namespace Diagram p3 p4 (record { free = addition-free three y one two; good = λ at. addition-good namespace at three y one two h.k3 h.k1 h.k2 h.z h.three_is h.one_is h.two_is h.y_is })
-          (record { free = output-free last y three next; good = λ at. output-good namespace at last y three next h.k4 h.k3 h.z h.last_is h.three_is h.y_is })))
+    both-good namespace Diagram p1 (both p2 (both p3 p4)) (record { free = input-free one y name; blank = λ at. simp out-roll-Node; good = λ at. input-good namespace at one y name h.k1 h.z h.one_is h.y_is })
+      (both-good namespace Diagram p2 (both p3 p4) (record { free = input-free two y (codes "DINT#1"); blank = λ at. simp out-roll-Node; good = λ at. input-good namespace at two y (codes "DINT#1") h.k2 h.z h.two_is h.y_is })
+        (both-good namespace Diagram p3 p4 (record { free = addition-free three y one two; blank = λ at. simp out-roll-Node; good = λ at. addition-good namespace at three y one two h.k3 h.k1 h.k2 h.z h.three_is h.one_is h.two_is h.y_is })
+          (record { free = output-free last y three next; blank = λ at. simp out-roll-Node; good = λ at. output-good namespace at last y three next h.k4 h.k3 h.z h.last_is h.three_is h.y_is })))
 
 -- what is counted behind items, and that it is never too much
 abbrev after : Counts → List Item → Counts
@@ -332,15 +359,6 @@ rows-good : (namespace : List ℕ) (variables body : Piece) (at_variables at_bod
 rows-good namespace variables body at_variables at_body e f h g he hf =
     good-append namespace (found VariableList variables at_variables) _ (h.good at_variables) (he, (hf, g.good at_body))
 
--- what no text stands in
-no-text-append : (xs ys : List Node) → list_any (λ (n : Node). is_nonblank (out-Node n)) xs ≡ false → list_any (λ (n : Node). is_nonblank (out-Node n)) ys ≡ false → list_any (λ (n : Node). is_nonblank (out-Node n)) (xs ++ ys) ≡ false
-no-text-append [] ys h g = g
-no-text-append (x ∷ xs) ys h g = of (is_nonblank (out-Node x)) refl h
-  where
-    of : (b : Bool) → is_nonblank (out-Node x) ≡ b → (b || list_any (λ (n : Node). is_nonblank (out-Node n)) xs) ≡ false → (is_nonblank (out-Node x) || list_any (λ (n : Node). is_nonblank (out-Node n)) (xs ++ ys)) ≡ false
-    of true e k = cc
-    of false e k = rw e (no-text-append xs ys k g)
-
 root-good : (variables body : Piece) → IsGoodPiece (codes "http://www.plcopen.org/xml/tc6_0201") VariableList variables → IsGoodPiece (codes "http://www.plcopen.org/xml/tc6_0201") Diagram body → AllGood (codes "http://www.plcopen.org/xml/tc6_0201") (looked_at (root variables body))
 unfolding items fate_of taken_with child_for is_aside has_prefix looked_at root_fate lacks_child taken_by has_stray_text has_text has_bad_field has_bad_namespace values_of has_form
 root-good variables body h g = simp (below-one, below-two) (
@@ -349,7 +367,66 @@ root-good variables body h g = simp (below-one, below-two) (
     (record { structure = simp out-roll-Node; attributes = refl; constructs = λ r d. refl },
     (record { structure = simp out-roll-Node; attributes = refl; constructs = λ r d. refl },
     (record { structure = simp out-roll-Node; attributes = refl; constructs = λ r d. refl },
-    (record { structure = ?; attributes = refl; constructs = λ r d. refl },
+    (record { structure = h.blank _; attributes = refl; constructs = λ r d. refl },
     rows-good (codes "http://www.plcopen.org/xml/tc6_0201") variables body _ _ _ _ h g
       (record { structure = simp out-roll-Node; attributes = refl; constructs = λ r d. refl })
-      (record { structure = ?; attributes = refl; constructs = λ r d. refl })))))))
+      (record { structure = g.blank _; attributes = refl; constructs = λ r d. refl })))))))
+
+not-both : (b : Bool) → b ≡ false → b ≡ true → ⊥
+not-both true h k = cc
+not-both false h k = cc
+
+never-structure : (e : Element) (namespace : List ℕ) (xs before : List Item) → AllGood namespace xs → Never (Breaks e Structure) before xs
+unfolding breaks
+never-structure e namespace [] before h = tt
+never-structure e namespace (x ∷ xs) before h = (λ k. not-both _ h.0.structure k, never-structure e namespace xs (x ∷ before) h.1)
+
+never-attributes : (e : Element) (xs before : List Item) → AllGood (attribute_of (codes "xmlns") e) xs → Never (Breaks e Attributes) before xs
+unfolding breaks
+never-attributes e [] before h = tt
+never-attributes e (x ∷ xs) before h = (λ k. not-both _ h.0.attributes k, never-attributes e xs (x ∷ before) h.1)
+
+never-constructs : (e : Element) (namespace : List ℕ) (xs before : List Item) → AllGood namespace xs → Never (Breaks e Constructs) before xs
+unfolding breaks
+never-constructs e namespace [] before h = tt
+never-constructs e namespace (x ∷ xs) before h = (λ k. not-both _ (h.0.constructs (referred 0 (looked_at e)) (diagrams before)) k, never-constructs e namespace xs (x ∷ before) h.1)
+
+never-limits : (e : Element) (xs before : List Item) → Few (counts_in before) xs → Never (Breaks e Limits) before xs
+unfolding breaks
+never-limits e [] before h = tt
+never-limits e (x ∷ xs) before h = (λ k. not-both _ h.0 k, never-limits e xs (x ∷ before) h.1)
+
+form-of : (e : Element) → AllGood (attribute_of (codes "xmlns") e) (looked_at e) → Few no_counts (looked_at e) → FormatVerdict e None
+form-of e h f =
+    let xs = looked_at e in
+    Next (never-structure e (attribute_of (codes "xmlns") e) xs [] h) (Next (never-attributes e xs [] h) (Next (never-constructs e (attribute_of (codes "xmlns") e) xs [] h) (Next (never-limits e xs [] f) Kept)))
+
+root-namespace : (variables body : Piece) → attribute_of (codes "xmlns") (root variables body) ≡ codes "http://www.plcopen.org/xml/tc6_0201"
+unfolding attribute_of values_of
+root-namespace variables body = refl
+
+numbers : (n i : ℕ) → n ≤ 1000 → i < n → AreNumbers (decimal (id_in i 1)) (decimal (id_in i 2)) (decimal (id_in i 3)) (decimal (id_in i 4)) (decimal i)
+numbers n i le lt = record {
+  k1 = id_in i 1;
+  k2 = id_in i 2;
+  k3 = id_in i 3;
+  k4 = id_in i 4;
+  z = pos (i * 1000000);
+  one_is = number-decimal (id_in i 1) (omega arith);
+  two_is = number-decimal (id_in i 2) (omega arith);
+  three_is = number-decimal (id_in i 3) (omega arith);
+  last_is = number-decimal (id_in i 4) (omega arith);
+  y_is = coordinate-decimal i (omega arith);
+}
+
+-- the tree of n networks breaks no rule on its form
+pub bench-form : (n : ℕ) → IsMeasured n → FormatVerdict (bench_root n) None
+bench-form n m =
+    let le = m.few in
+    let namespace = codes "http://www.plcopen.org/xml/tc6_0201" in
+    form-of (bench_root n)
+      (subst (λ (u : List ℕ). AllGood u (looked_at (bench_root n))) (sym (root-namespace (declarations n) (networks n)))
+        (root-good (declarations n) (networks n)
+          (row-holds (IsGoodPiece namespace VariableList) (nothing-good namespace VariableList) (both-good namespace VariableList) (λ i. declaration (variable_name i)) n (λ i lt. declaration-piece namespace (variable_name i)) n 0 (omega arith))
+          (row-holds (IsGoodPiece namespace Diagram) (nothing-good namespace Diagram) (both-good namespace Diagram) (network n) n (λ i lt. four-good namespace _ _ _ _ _ _ _ (numbers n i le lt)) n 0 (omega arith))))
+      (root-few (declarations n) (networks n) n le (declarations-list n 0) (networks-draw n n 0))
