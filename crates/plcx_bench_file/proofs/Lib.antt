@@ -1,0 +1,4 @@
+pub mod Stands
+pub mod Digits
+pub mod Ring
+pub mod Form
