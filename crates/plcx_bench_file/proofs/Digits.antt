@@ -1,6 +1,6 @@
 -- What holds of the digits of a number.
-use Rattle.std.proofs.Common.{◌≡◌, ◌≤◌, ◌<◌, ◌+◌, ◌-◌, ◌*◌, ◌/◌, ◌%◌, ◌^◌, ℕ, zero, suc, Bool, true, false, List, [], ◌∷◌, ◌++◌, length, fold, take, drop, refl, ap, sym, subst, ◌∙◌, arith, cond, Some, None, append-nil}
-use Rattle.std.specs.Prelude.{◌&&◌, ◌||◌, pos, nat_le, nat_lt, nat_eq, ℤ}
+use Rattle.std.proofs.Common.{◌≡◌, ◌≤◌, ◌<◌, ◌+◌, ◌-◌, ◌*◌, ◌/◌, ◌%◌, ◌^◌, ℕ, zero, suc, Bool, true, false, List, [], ◌∷◌, ◌++◌, length, drop, refl, ap, sym, ◌∙◌, arith, Some, append-nil}
+use Rattle.std.specs.Prelude.{pos, nat_le}
 use Rattle.std.specs.List.{list_all, prefix_len}
 use Rattle.std.specs.Fmt.{decimal}
 use Rattle.std.proofs.lemmas.Fmt.{decimal_by_steps, decimal_nonempty, length-decimal-le}
@@ -93,5 +93,9 @@ pub coordinate-decimal : (n : ℕ) → n < 10 ^ 12 → coordinate_of (decimal n)
 unfolding coordinate_of
 coordinate-decimal n h =
     let digits = all-decimal is_digit digits-digital n (omega arith) in
-    rw (apart 45 (decimal n) (omega arith) digits, apart 43 (decimal n) (omega arith) digits,
-        magnitude (decimal n) (decimal_nonempty n (omega arith)) (length-decimal-le 12 n (omega arith) h (omega arith)) digits, value-decimal n (omega arith)) refl
+    rw (
+      apart 45 (decimal n) (omega arith) digits,
+      apart 43 (decimal n) (omega arith) digits,
+      magnitude (decimal n) (decimal_nonempty n (omega arith)) (length-decimal-le 12 n (omega arith) h (omega arith)) digits,
+      value-decimal n (omega arith),
+    ) refl

@@ -1,10 +1,10 @@
 -- The tree of the file breaks no rule on its form.
-use Rattle.std.proofs.Common.{◌≡◌, ◌≤◌, ◌<◌, ◌+◌, ◌*◌, ◌%◌, ◌^◌, ℕ, zero, suc, Bool, true, false, List, [], ◌∷◌, ◌++◌, length, map, refl, ap, sym, subst, ◌∙◌, arith, Some, None, append_assoc, append-nil}
+use Rattle.std.proofs.Common.{◌≡◌, ◌≤◌, ◌<◌, ◌+◌, ◌*◌, ℕ, zero, suc, Bool, true, false, List, [], ◌∷◌, ◌++◌, length, map, refl, ap, sym, subst, ◌∙◌, arith, Some, None, append_assoc, append-nil}
 use Rattle.std.specs.Prelude.{codes, pos, ℤ, ◌||◌}
 use Rattle.std.specs.List.{range_with_len, list_any}
 use Rattle.plcx_bench_project.specs.Bench.{IsMeasured, variable_name, id_in}
 use Rattle.plcx_table.specs.Format.{looked_at, root_fate, breaks, Breaks, FormatVerdict}
-use Rattle.plcx_xml.specs.declared.tree.Node.{Node, roll-Node, out-Node, out-roll-Node}
+use Rattle.plcx_xml.specs.declared.tree.Node.{Node, out-Node, out-roll-Node}
 use Rattle.plcx_xml.specs.declared.tree.Element.{Element}
 use Rattle.plcx_table.specs.declared.row.Row.{Row}
 use Rattle.plcx_table.specs.declared.row.Row.TheVariants.{Body, Diagram, VariableList}
@@ -23,7 +23,7 @@ use Rattle.plcx_model.specs.Verdict.{Never, Next, Kept}
 use Rattle.std.specs.Fmt.{decimal}
 use Rattle.plcx_bench_file.proofs.Digits.{number-decimal, coordinate-decimal}
 use Rattle.plcx_bench_file.proofs.Ring.{row-holds}
-use Rattle.plcx_bench_file.specs.Markup.{Piece, Pair, node_of, nothing, both, in_a_row}
+use Rattle.plcx_bench_file.specs.Markup.{Piece, node_of, nothing, both, in_a_row}
 use Rattle.plcx_bench_file.specs.File.{input, addition, output, four, network, networks, declaration, declarations, root, bench_root}
 
 -- an element that breaks none of the rules that look at it alone
@@ -43,44 +43,84 @@ at_zero = refl
 input-good : (namespace : List ℕ) (at : ℕ) (id y text : List ℕ) (k : ℕ) (z : ℤ) → number_of id ≡ Some k → coordinate_of y ≡ Some z → AllGood namespace (items_below (items 58) Diagram none_taken ((input id y text).nodes at))
 unfolding items items_below fate_of taken_with child_for is_aside has_prefix lacks_child taken_by has_stray_text has_text has_bad_field has_bad_namespace values_of has_form
 input-good namespace at id y text k z i h = simp out-roll-Node (
-    record { structure = simp out-roll-Node; attributes = simp i; constructs = λ r d. refl },
-    (record { structure = refl; attributes = simp (at_zero, h); constructs = λ r d. refl },
-    (record { structure = refl; attributes = refl; constructs = λ r d. refl },
-    tt)))
+  record { structure = simp out-roll-Node; attributes = simp i; constructs = λ r d. refl },
+  (
+    record { structure = refl; attributes = simp (at_zero, h); constructs = λ r d. refl },
+    (
+      record { structure = refl; attributes = refl; constructs = λ r d. refl },
+      tt,
+    ),
+  ),
+)
 
 addition-good : (namespace : List ℕ) (at : ℕ) (id y left right : List ℕ) (k l r : ℕ) (z : ℤ) → number_of id ≡ Some k → number_of left ≡ Some l → number_of right ≡ Some r → coordinate_of y ≡ Some z → AllGood namespace (items_below (items 58) Diagram none_taken ((addition id y left right).nodes at))
 unfolding items items_below fate_of taken_with child_for is_aside has_prefix lacks_child taken_by has_stray_text has_text has_bad_field has_bad_namespace values_of has_form
-addition-good namespace at id y left right k l r z i hl hr h = simp out-roll-Node (
-    (record { structure = simp out-roll-Node; attributes = simp i; constructs = λ r d. refl },
-    (record { structure = refl; attributes = simp (at_zero, h); constructs = λ r d. refl },
-    (record { structure = simp out-roll-Node; attributes = refl; constructs = λ r d. refl },
-    (record { structure = simp out-roll-Node; attributes = refl; constructs = λ r d. refl },
-    (record { structure = simp out-roll-Node; attributes = refl; constructs = λ r d. refl },
-    (record { structure = refl; attributes = simp hl; constructs = λ r d. refl },
-    (record { structure = simp out-roll-Node; attributes = refl; constructs = λ r d. refl },
-    (record { structure = simp out-roll-Node; attributes = refl; constructs = λ r d. refl },
-    (record { structure = refl; attributes = simp hr; constructs = λ r d. refl },
-    (record { structure = simp out-roll-Node; attributes = refl; constructs = λ r d. refl },
-    (record { structure = refl; attributes = refl; constructs = λ r d. refl },
-    tt))))))))))))
+addition-good namespace at id y left right k l r z i hl hr h = simp out-roll-Node ((
+  record { structure = simp out-roll-Node; attributes = simp i; constructs = λ r d. refl },
+  (
+    record { structure = refl; attributes = simp (at_zero, h); constructs = λ r d. refl },
+    (
+      record { structure = simp out-roll-Node; attributes = refl; constructs = λ r d. refl },
+      (
+        record { structure = simp out-roll-Node; attributes = refl; constructs = λ r d. refl },
+        (
+          record { structure = simp out-roll-Node; attributes = refl; constructs = λ r d. refl },
+          (
+            record { structure = refl; attributes = simp hl; constructs = λ r d. refl },
+            (
+              record { structure = simp out-roll-Node; attributes = refl; constructs = λ r d. refl },
+              (
+                record { structure = simp out-roll-Node; attributes = refl; constructs = λ r d. refl },
+                (
+                  record { structure = refl; attributes = simp hr; constructs = λ r d. refl },
+                  (
+                    record { structure = simp out-roll-Node; attributes = refl; constructs = λ r d. refl },
+                    (
+                      record { structure = refl; attributes = refl; constructs = λ r d. refl },
+                      tt,
+                    ),
+                  ),
+                ),
+              ),
+            ),
+          ),
+        ),
+      ),
+    ),
+  ),
+))
 
 output-good : (namespace : List ℕ) (at : ℕ) (id y sum text : List ℕ) (k l : ℕ) (z : ℤ) → number_of id ≡ Some k → number_of sum ≡ Some l → coordinate_of y ≡ Some z → AllGood namespace (items_below (items 58) Diagram none_taken ((output id y sum text).nodes at))
 unfolding items items_below fate_of taken_with child_for is_aside has_prefix lacks_child taken_by has_stray_text has_text has_bad_field has_bad_namespace values_of has_form
-output-good namespace at id y sum text k l z i hl h = simp out-roll-Node (
-    (record { structure = simp out-roll-Node; attributes = simp i; constructs = λ r d. refl },
-    (record { structure = refl; attributes = simp (at_zero, h); constructs = λ r d. refl },
-    (record { structure = simp out-roll-Node; attributes = refl; constructs = λ r d. refl },
-    (record { structure = refl; attributes = simp hl; constructs = λ r d. refl },
-    (record { structure = refl; attributes = refl; constructs = λ r d. refl },
-    tt))))))
+output-good namespace at id y sum text k l z i hl h = simp out-roll-Node ((
+  record { structure = simp out-roll-Node; attributes = simp i; constructs = λ r d. refl },
+  (
+    record { structure = refl; attributes = simp (at_zero, h); constructs = λ r d. refl },
+    (
+      record { structure = simp out-roll-Node; attributes = refl; constructs = λ r d. refl },
+      (
+        record { structure = refl; attributes = simp hl; constructs = λ r d. refl },
+        (
+          record { structure = refl; attributes = refl; constructs = λ r d. refl },
+          tt,
+        ),
+      ),
+    ),
+  ),
+))
 
 declaration-good : (namespace : List ℕ) (at : ℕ) (name : List ℕ) → AllGood namespace (items_below (items 58) VariableList none_taken ((declaration name).nodes at))
 unfolding items items_below fate_of taken_with child_for is_aside has_prefix lacks_child taken_by has_stray_text has_text has_bad_field has_bad_namespace values_of has_form
-declaration-good namespace at name = simp out-roll-Node (
-    (record { structure = simp out-roll-Node; attributes = refl; constructs = λ r d. refl },
-    (record { structure = simp out-roll-Node; attributes = refl; constructs = λ r d. refl },
-    (record { structure = refl; attributes = refl; constructs = λ r d. refl },
-    tt))))
+declaration-good namespace at name = simp out-roll-Node ((
+  record { structure = simp out-roll-Node; attributes = refl; constructs = λ r d. refl },
+  (
+    record { structure = simp out-roll-Node; attributes = refl; constructs = λ r d. refl },
+    (
+      record { structure = refl; attributes = refl; constructs = λ r d. refl },
+      tt,
+    ),
+  ),
+))
 
 good-append : (namespace : List ℕ) (xs ys : List Item) → AllGood namespace xs → AllGood namespace ys → AllGood namespace (xs ++ ys)
 good-append namespace [] ys h g = g
@@ -189,9 +229,9 @@ four-good namespace one two three last y name next h =
     let p3 = addition three y one two in
     let p4 = output last y three next in
     both-good namespace Diagram p1 (both p2 (both p3 p4)) (record { free = input-free one y name; blank = λ at. simp out-roll-Node; good = λ at. input-good namespace at one y name h.k1 h.z h.one_is h.y_is })
-      (both-good namespace Diagram p2 (both p3 p4) (record { free = input-free two y (codes "DINT#1"); blank = λ at. simp out-roll-Node; good = λ at. input-good namespace at two y (codes "DINT#1") h.k2 h.z h.two_is h.y_is })
-        (both-good namespace Diagram p3 p4 (record { free = addition-free three y one two; blank = λ at. simp out-roll-Node; good = λ at. addition-good namespace at three y one two h.k3 h.k1 h.k2 h.z h.three_is h.one_is h.two_is h.y_is })
-          (record { free = output-free last y three next; blank = λ at. simp out-roll-Node; good = λ at. output-good namespace at last y three next h.k4 h.k3 h.z h.last_is h.three_is h.y_is })))
+    (both-good namespace Diagram p2 (both p3 p4) (record { free = input-free two y (codes "DINT#1"); blank = λ at. simp out-roll-Node; good = λ at. input-good namespace at two y (codes "DINT#1") h.k2 h.z h.two_is h.y_is })
+    (both-good namespace Diagram p3 p4 (record { free = addition-free three y one two; blank = λ at. simp out-roll-Node; good = λ at. addition-good namespace at three y one two h.k3 h.k1 h.k2 h.z h.three_is h.one_is h.two_is h.y_is })
+    (record { free = output-free last y three next; blank = λ at. simp out-roll-Node; good = λ at. output-good namespace at last y three next h.k4 h.k3 h.z h.last_is h.three_is h.y_is })))
 
 -- what is counted behind items, and that it is never too much
 abbrev after : Counts → List Item → Counts
@@ -241,8 +281,25 @@ input-after e k c id y text at h = simp out-roll-Node (omega arith)
 
 addition-few : (e k : ℕ) (c : Counts) (id y left right : List ℕ) (at : ℕ) → UpTo 4096 e k c → e < 4096 → k + 2 ≤ 16384 → Few c (found Diagram (addition id y left right) at)
 unfolding items items_below fate_of taken_with child_for is_aside has_prefix
-addition-few e k c id y left right at h lt le = simp out-roll-Node (few _ (omega arith), (few _ (omega arith), (few _ (omega arith), (few _ (omega arith), (few _ (omega arith), (few _ (omega arith),
-    (few _ (omega arith), (few _ (omega arith), (few _ (omega arith), (few _ (omega arith), (few _ (omega arith), tt)))))))))))
+addition-few e k c id y left right at h lt le = simp out-roll-Node (
+  few _ (omega arith),
+  (
+    few _ (omega arith),
+    (
+      few _ (omega arith),
+      (
+        few _ (omega arith),
+        (
+          few _ (omega arith),
+          (
+            few _ (omega arith),
+            (few _ (omega arith), (few _ (omega arith), (few _ (omega arith), (few _ (omega arith), (few _ (omega arith), tt))))),
+          ),
+        ),
+      ),
+    ),
+  ),
+)
 
 addition-after : (e k : ℕ) (c : Counts) (id y left right : List ℕ) (at : ℕ) → UpTo 4096 e k c → UpTo 4096 (e + 1) (k + 2) (after c (found Diagram (addition id y left right) at))
 unfolding items items_below fate_of taken_with child_for is_aside has_prefix
@@ -265,12 +322,12 @@ both-draw : (a b a_more b_more : ℕ) (p q : Piece) → Draws a b p → Draws a_
 both-draw a b a_more b_more p q h g = record {
   free = both-free Diagram p q h.free g.free;
   step = λ e k c at u le lb.
-    let first = h.step e k c at u (omega arith) (omega arith) in
-    let xs = found Diagram p at in
-    let ys = found Diagram q (at + length p.bytes) in
-    let second = g.step (e + a) (k + b) (after c xs) (at + length p.bytes) first.1 (omega arith) (omega arith) in
-    let up = second.1 in
-    rw (found-both Diagram p q at h.free) (few-append xs ys c first.0 second.0, rw (after-append xs ys c) (omega arith));
+      let first = h.step e k c at u (omega arith) (omega arith) in
+      let xs = found Diagram p at in
+      let ys = found Diagram q (at + length p.bytes) in
+      let second = g.step (e + a) (k + b) (after c xs) (at + length p.bytes) first.1 (omega arith) (omega arith) in
+      let up = second.1 in
+      rw (found-both Diagram p q at h.free) (few-append xs ys c first.0 second.0, rw (after-append xs ys c) (omega arith));
 }
 
 nothing-draws : Draws 0 0 nothing
@@ -278,9 +335,12 @@ unfolding items_below
 nothing-draws = record { free = record { free = λ at. refl }; step = λ e k c at u le lb. (tt, omega arith) }
 
 input-draws : (id y text : List ℕ) → Draws 1 0 (input id y text)
-input-draws id y text = record { free = input-free id y text; step = λ e k c at u le lb.
-    let up = input-after e k c id y text at u in
-    (input-few e k c id y text at u (omega arith) (omega arith), omega arith) }
+input-draws id y text = record {
+  free = input-free id y text;
+  step = λ e k c at u le lb.
+      let up = input-after e k c id y text at u in
+      (input-few e k c id y text at u (omega arith) (omega arith), omega arith);
+}
 
 addition-draws : (id y left right : List ℕ) → Draws 1 2 (addition id y left right)
 addition-draws id y left right = record { free = addition-free id y left right; step = λ e k c at u le lb. (addition-few e k c id y left right at u (omega arith) lb, addition-after e k c id y left right at u) }
@@ -295,7 +355,7 @@ four-draws one two three last y name next =
     let p3 = addition three y one two in
     let p4 = output last y three next in
     both-draw 1 0 3 3 p1 (both p2 (both p3 p4)) (input-draws one y name)
-      (both-draw 1 0 2 3 p2 (both p3 p4) (input-draws two y (codes "DINT#1")) (both-draw 1 2 1 1 p3 p4 (addition-draws three y one two) (output-draws last y three next)))
+    (both-draw 1 0 2 3 p2 (both p3 p4) (input-draws two y (codes "DINT#1")) (both-draw 1 2 1 1 p3 p4 (addition-draws three y one two) (output-draws last y three next)))
 
 networks-draw : (n m a : ℕ) → Draws (m * 4) (m * 3) (in_a_row (map (network n) (range_with_len a m)))
 networks-draw n zero a = nothing-draws
@@ -304,7 +364,7 @@ networks-draw n (suc m) a =
     let e : 4 + m * 4 ≡ suc m * 4 = omega arith in
     let k : 3 + m * 3 ≡ suc m * 3 = omega arith in
     subst (λ (x : ℕ). Draws x (suc m * 3) (both (network n a) rest)) e (subst (λ (x : ℕ). Draws (4 + m * 4) x (both (network n a) rest)) k
-      (both-draw 4 3 (m * 4) (m * 3) (network n a) rest (four-draws _ _ _ _ _ _ _) (networks-draw n m (a + 1))))
+    (both-draw 4 3 (m * 4) (m * 3) (network n a) rest (four-draws _ _ _ _ _ _ _) (networks-draw n m (a + 1))))
 
 -- what a piece of a list adds to the variables
 record Lists (m : ℕ) (p : Piece) : Type 0 where
@@ -317,14 +377,14 @@ declarations-list zero a = record { free = record { free = λ at. refl }; step =
 declarations-list (suc m) a = record {
   free = both-free VariableList (declaration (variable_name a)) (in_a_row (map (λ i. declaration (variable_name i)) (range_with_len (a + 1) m))) (declaration-free (variable_name a)) (declarations-list m (a + 1)).free;
   step = λ v c at u le.
-    let p = declaration (variable_name a) in
-    let q = in_a_row (map (λ i. declaration (variable_name i)) (range_with_len (a + 1) m)) in
-    let xs = found VariableList p at in
-    let ys = found VariableList q (at + length p.bytes) in
-    let first = declaration-after v c (variable_name a) at u (omega arith) in
-    let second = (declarations-list m (a + 1)).step (v + 1) (after c xs) (at + length p.bytes) first (omega arith) in
-    let up = second.1 in
-    rw (found-both VariableList p q at (declaration-free (variable_name a))) (few-append xs ys c (declaration-few v c (variable_name a) at u (omega arith)) second.0, rw (after-append xs ys c) (omega arith));
+      let p = declaration (variable_name a) in
+      let q = in_a_row (map (λ i. declaration (variable_name i)) (range_with_len (a + 1) m)) in
+      let xs = found VariableList p at in
+      let ys = found VariableList q (at + length p.bytes) in
+      let first = declaration-after v c (variable_name a) at u (omega arith) in
+      let second = (declarations-list m (a + 1)).step (v + 1) (after c xs) (at + length p.bytes) first (omega arith) in
+      let up = second.1 in
+      rw (found-both VariableList p q at (declaration-free (variable_name a))) (few-append xs ys c (declaration-few v c (variable_name a) at u (omega arith)) second.0, rw (after-append xs ys c) (omega arith));
 }
 
 below-one : (inner : Fate → Element → List Item) (row : Row) (e : Element) → items_below inner row none_taken (node_of e ∷ []) ≡ inner (fate_of row none_taken e) e
@@ -362,15 +422,26 @@ rows-good namespace variables body at_variables at_body e f h g he hf =
 root-good : (variables body : Piece) → IsGoodPiece (codes "http://www.plcopen.org/xml/tc6_0201") VariableList variables → IsGoodPiece (codes "http://www.plcopen.org/xml/tc6_0201") Diagram body → AllGood (codes "http://www.plcopen.org/xml/tc6_0201") (looked_at (root variables body))
 unfolding items fate_of taken_with child_for is_aside has_prefix looked_at root_fate lacks_child taken_by has_stray_text has_text has_bad_field has_bad_namespace values_of has_form
 root-good variables body h g = simp (below-one, below-two) (
+  record { structure = simp out-roll-Node; attributes = refl; constructs = λ r d. refl },
+  (
     record { structure = simp out-roll-Node; attributes = refl; constructs = λ r d. refl },
-    (record { structure = simp out-roll-Node; attributes = refl; constructs = λ r d. refl },
-    (record { structure = simp out-roll-Node; attributes = refl; constructs = λ r d. refl },
-    (record { structure = simp out-roll-Node; attributes = refl; constructs = λ r d. refl },
-    (record { structure = simp out-roll-Node; attributes = refl; constructs = λ r d. refl },
-    (record { structure = h.blank _; attributes = refl; constructs = λ r d. refl },
-    rows-good (codes "http://www.plcopen.org/xml/tc6_0201") variables body _ _ _ _ h g
-      (record { structure = simp out-roll-Node; attributes = refl; constructs = λ r d. refl })
-      (record { structure = g.blank _; attributes = refl; constructs = λ r d. refl })))))))
+    (
+      record { structure = simp out-roll-Node; attributes = refl; constructs = λ r d. refl },
+      (
+        record { structure = simp out-roll-Node; attributes = refl; constructs = λ r d. refl },
+        (
+          record { structure = simp out-roll-Node; attributes = refl; constructs = λ r d. refl },
+          (
+            record { structure = h.blank _; attributes = refl; constructs = λ r d. refl },
+            rows-good (codes "http://www.plcopen.org/xml/tc6_0201") variables body _ _ _ _ h g
+                (record { structure = simp out-roll-Node; attributes = refl; constructs = λ r d. refl })
+                (record { structure = g.blank _; attributes = refl; constructs = λ r d. refl }),
+          ),
+        ),
+      ),
+    ),
+  ),
+)
 
 not-both : (b : Bool) → b ≡ false → b ≡ true → ⊥
 not-both true h k = cc
@@ -425,8 +496,8 @@ bench-form n m =
     let le = m.few in
     let namespace = codes "http://www.plcopen.org/xml/tc6_0201" in
     form-of (bench_root n)
-      (subst (λ (u : List ℕ). AllGood u (looked_at (bench_root n))) (sym (root-namespace (declarations n) (networks n)))
-        (root-good (declarations n) (networks n)
-          (row-holds (IsGoodPiece namespace VariableList) (nothing-good namespace VariableList) (both-good namespace VariableList) (λ i. declaration (variable_name i)) n (λ i lt. declaration-piece namespace (variable_name i)) n 0 (omega arith))
-          (row-holds (IsGoodPiece namespace Diagram) (nothing-good namespace Diagram) (both-good namespace Diagram) (network n) n (λ i lt. four-good namespace _ _ _ _ _ _ _ (numbers n i le lt)) n 0 (omega arith))))
-      (root-few (declarations n) (networks n) n le (declarations-list n 0) (networks-draw n n 0))
+    (subst (λ (u : List ℕ). AllGood u (looked_at (bench_root n))) (sym (root-namespace (declarations n) (networks n)))
+    (root-good (declarations n) (networks n)
+    (row-holds (IsGoodPiece namespace VariableList) (nothing-good namespace VariableList) (both-good namespace VariableList) (λ i. declaration (variable_name i)) n (λ i lt. declaration-piece namespace (variable_name i)) n 0 (omega arith))
+    (row-holds (IsGoodPiece namespace Diagram) (nothing-good namespace Diagram) (both-good namespace Diagram) (network n) n (λ i lt. four-good namespace _ _ _ _ _ _ _ (numbers n i le lt)) n 0 (omega arith))))
+    (root-few (declarations n) (networks n) n le (declarations-list n 0) (networks-draw n n 0))

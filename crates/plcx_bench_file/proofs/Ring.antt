@@ -1,9 +1,9 @@
 -- The bytes of the file stand for its tree.
-use Rattle.std.proofs.Common.{◌≡◌, ◌≤◌, ◌<◌, ◌+◌, ◌*◌, ◌%◌, ◌^◌, ℕ, zero, suc, Bool, true, List, [], ◌∷◌, ◌++◌, length, map, max, fold, refl, ap, sym, subst, ◌∙◌, arith, append-nil, length-append}
+use Rattle.std.proofs.Common.{◌≡◌, ◌≤◌, ◌<◌, ◌+◌, ◌%◌, ◌^◌, ℕ, zero, suc, Bool, true, List, [], ◌∷◌, ◌++◌, length, map, max, fold, refl, ap, sym, subst, ◌∙◌, arith, append-nil}
 use Rattle.std.specs.Prelude.{codes, nat_lt}
-use Rattle.std.specs.List.{list_all, flat_map, range_with_len}
+use Rattle.std.specs.List.{list_all, range_with_len}
 use Rattle.std.specs.Fmt.{decimal}
-use Rattle.std.specs.Str.{IsAscii, IsUtf8, chars}
+use Rattle.std.specs.Str.{IsAscii}
 use Rattle.std.proofs.lemmas.Fmt.{decimal_nonempty}
 use Rattle.std.proofs.lemmas.Bool.{ltb-true}
 use Rattle.std.proofs.lemmas.List.Folds.{list_all-append}
@@ -16,15 +16,15 @@ use Rattle.plcx_xml.specs.Grammar.{AreTokens}
 use Rattle.plcx_xml.specs.StandsForTree.{IsTreeOf}
 use Rattle.plcx_xml.specs.declared.token.Token.{Token}
 use Rattle.plcx_xml.specs.declared.tree.Node.{Node, fold-roll-Node}
-use Rattle.plcx_xml.specs.declared.tree.Node.TheOpen.{Node-F, Element-F}
-use Rattle.plcx_xml.specs.declared.tree.Element.{Element, fold-roll-Element}
+use Rattle.plcx_xml.specs.declared.tree.Node.TheOpen.{Node-F}
+use Rattle.plcx_xml.specs.declared.tree.Element.{fold-roll-Element}
 use Rattle.plcx_xml.proofs.Runs.{both-true}
 use Rattle.plcx_xml.proofs.TreeRuns.{depth_of}
 use Rattle.plcx_xml.proofs.Views.{node-element}
 use Rattle.plcx_bench_project.specs.Bench.{IsMeasured, variable_name, next_name, id_in}
-use Rattle.plcx_bench_file.specs.Markup.{Piece, Pair, start_tag, node_of, around_at, element, empty, words, nothing, both, in_a_row}
+use Rattle.plcx_bench_file.specs.Markup.{Piece, Pair, start_tag, node_of, around_at, element, empty, nothing, both, in_a_row}
 use Rattle.plcx_bench_file.specs.File.{with, numbered, position, expression, input, point, pin, pins, result, addition, output, four, network, declaration, declarations, networks, program, inside, namespace, file, bench_bytes, root, bench_root}
-use Rattle.plcx_bench_file.proofs.Digits.{Digital, digital, all-decimal}
+use Rattle.plcx_bench_file.proofs.Digits.{digital, all-decimal}
 use Rattle.plcx_bench_file.proofs.Stands.{Stands, IsPair, ArePairs, nothing-stands, both-stand, empty-stands, element-stands, words-stand}
 
 -- a value that is written as it is, also as a text
@@ -48,7 +48,6 @@ pub name-written : (n : ℕ) → n < 2 ^ 64 → IsWritten (variable_name n)
 name-written n h =
     let d = decimal-written n h in
     record { some = omega arith; inside = d.inside; plain = d.plain; words = d.words; single = d.single }
-
 
 position-stands : (y : List ℕ) → IsWritten y → Stands (position y)
 position-stands y h = empty-stands (codes "position") (with (codes "x") (codes "0") ∷ with (codes "y") y ∷ []) (refl, refl)
@@ -81,8 +80,8 @@ result-stands = element-stands (codes "outputVariables") [] (empty (codes "varia
 pins-stand : (left right : List ℕ) → IsWritten left → IsWritten right → Stands (pins left right)
 pins-stand left right l r = element-stands (codes "inputVariables") [] (both (pin (codes "IN1") left) (pin (codes "IN2") right)) (refl, refl) tt
     (both-stand (pin (codes "IN1") left) (pin (codes "IN2") right)
-      (pin-stands (codes "IN1") left (record { some = omega arith; inside = refl; plain = refl; words = refl; single = refl }) l)
-      (pin-stands (codes "IN2") right (record { some = omega arith; inside = refl; plain = refl; words = refl; single = refl }) r))
+    (pin-stands (codes "IN1") left (record { some = omega arith; inside = refl; plain = refl; words = refl; single = refl }) l)
+    (pin-stands (codes "IN2") right (record { some = omega arith; inside = refl; plain = refl; words = refl; single = refl }) r))
 
 addition-stands : (id y left right : List ℕ) → IsWritten id → IsWritten y → IsWritten left → IsWritten right → Stands (addition id y left right)
 addition-stands id y left right i h l r = element-stands (codes "block") (with (codes "localId") id ∷ with (codes "typeName") (codes "ADD") ∷ []) (both (position y) (both (pins left right) result)) (refl, refl)
@@ -93,7 +92,7 @@ output-stands : (id y sum text : List ℕ) → IsWritten id → IsWritten y → 
 output-stands id y sum text i h s t =
     let pairs = with (codes "refLocalId") sum ∷ with (codes "formalParameter") (codes "OUT") ∷ [] in
     element-stands (codes "outVariable") (numbered id) (both (position y) (both (point pairs) (expression text))) (refl, refl) (record { named = (refl, refl); some = i.some; inside = i.inside; plain = i.plain }, tt)
-      (both-stand (position y) (both (point pairs) (expression text)) (position-stands y h) (both-stand (point pairs) (expression text) (point-stands pairs (refers sum s, (formal, tt))) (expression-stands text t)))
+    (both-stand (position y) (both (point pairs) (expression text)) (position-stands y h) (both-stand (point pairs) (expression text) (point-stands pairs (refers sum s, (formal, tt))) (expression-stands text t)))
 
 number-written : IsWritten (codes "DINT#1")
 number-written = record { some = omega arith; inside = refl; plain = refl; words = refl; single = refl }
@@ -101,8 +100,8 @@ number-written = record { some = omega arith; inside = refl; plain = refl; words
 pub four-stand : (one two three last y name next : List ℕ) → IsWritten one → IsWritten two → IsWritten three → IsWritten last → IsWritten y → IsWritten name → IsWritten next → Stands (four one two three last y name next)
 four-stand one two three last y name next h1 h2 h3 h4 hy hn hm =
     both-stand (input one y name) (both (input two y (codes "DINT#1")) (both (addition three y one two) (output last y three next))) (input-stands one y name h1 hy hn)
-      (both-stand (input two y (codes "DINT#1")) (both (addition three y one two) (output last y three next)) (input-stands two y (codes "DINT#1") h2 hy number-written)
-        (both-stand (addition three y one two) (output last y three next) (addition-stands three y one two h3 hy h1 h2) (output-stands last y three next h4 hy h3 hm)))
+    (both-stand (input two y (codes "DINT#1")) (both (addition three y one two) (output last y three next)) (input-stands two y (codes "DINT#1") h2 hy number-written)
+    (both-stand (addition three y one two) (output last y three next) (addition-stands three y one two h3 hy h1 h2) (output-stands last y three next h4 hy h3 hm)))
 
 pub declaration-stands : (name : List ℕ) → IsWritten name → Stands (declaration name)
 declaration-stands name h = element-stands (codes "variable") (with (codes "name") name ∷ []) (element (codes "type") [] (empty (codes "DINT") [])) (refl, refl)
@@ -112,14 +111,14 @@ declaration-stands name h = element-stands (codes "variable") (with (codes "name
 file-pieces-stand : (variables body : Piece) → Stands variables → Stands body → Stands (file variables body)
 file-pieces-stand variables body h g =
     element-stands (codes "project") namespace (inside variables body) (refl, refl) (record { named = (refl, refl); some = omega arith; inside = refl; plain = refl }, tt)
-      (element-stands (codes "types") [] (element (codes "pous") [] (program variables body)) (refl, refl) tt
-        (element-stands (codes "pous") [] (program variables body) (refl, refl) tt
-          (element-stands (codes "pou") (with (codes "name") (codes "Bench") ∷ with (codes "pouType") (codes "program") ∷ [])
-            (both (element (codes "interface") [] (element (codes "localVars") [] variables)) (element (codes "body") [] (element (codes "FBD") [] body))) (refl, refl)
-            (record { named = (refl, refl); some = omega arith; inside = refl; plain = refl }, (record { named = (refl, refl); some = omega arith; inside = refl; plain = refl }, tt))
-            (both-stand (element (codes "interface") [] (element (codes "localVars") [] variables)) (element (codes "body") [] (element (codes "FBD") [] body))
-              (element-stands (codes "interface") [] (element (codes "localVars") [] variables) (refl, refl) tt (element-stands (codes "localVars") [] variables (refl, refl) tt h))
-              (element-stands (codes "body") [] (element (codes "FBD") [] body) (refl, refl) tt (element-stands (codes "FBD") [] body (refl, refl) tt g))))))
+    (element-stands (codes "types") [] (element (codes "pous") [] (program variables body)) (refl, refl) tt
+    (element-stands (codes "pous") [] (program variables body) (refl, refl) tt
+    (element-stands (codes "pou") (with (codes "name") (codes "Bench") ∷ with (codes "pouType") (codes "program") ∷ [])
+    (both (element (codes "interface") [] (element (codes "localVars") [] variables)) (element (codes "body") [] (element (codes "FBD") [] body))) (refl, refl)
+    (record { named = (refl, refl); some = omega arith; inside = refl; plain = refl }, (record { named = (refl, refl); some = omega arith; inside = refl; plain = refl }, tt))
+    (both-stand (element (codes "interface") [] (element (codes "localVars") [] variables)) (element (codes "body") [] (element (codes "FBD") [] body))
+    (element-stands (codes "interface") [] (element (codes "localVars") [] variables) (refl, refl) tt (element-stands (codes "localVars") [] variables (refl, refl) tt h))
+    (element-stands (codes "body") [] (element (codes "FBD") [] body) (refl, refl) tt (element-stands (codes "FBD") [] body (refl, refl) tt g))))))
 
 -- bytes that are characters by themselves
 all-of : (q : ℕ → Bool) (xs ys : List ℕ) → list_all q xs ≡ true → list_all q ys ≡ true → list_all q (xs ++ ys) ≡ true
@@ -155,8 +154,8 @@ network-written : (P : Piece → Type 0) → ((one two three last y name next : 
 network-written P h n i m lt =
     let few = m.few in
     h (decimal (id_in i 1)) (decimal (id_in i 2)) (decimal (id_in i 3)) (decimal (id_in i 4)) (decimal i) (variable_name i) (next_name n i)
-      (decimal-written (id_in i 1) (omega arith)) (decimal-written (id_in i 2) (omega arith)) (decimal-written (id_in i 3) (omega arith)) (decimal-written (id_in i 4) (omega arith))
-      (decimal-written i (omega arith)) (name-written i (omega arith)) (next-written n i m)
+    (decimal-written (id_in i 1) (omega arith)) (decimal-written (id_in i 2) (omega arith)) (decimal-written (id_in i 3) (omega arith)) (decimal-written (id_in i 4) (omega arith))
+    (decimal-written i (omega arith)) (name-written i (omega arith)) (next-written n i m)
 
 networks-stand : (n : ℕ) → IsMeasured n → Stands (networks n)
 networks-stand n m = row-holds Stands nothing-stands both-stand (network n) n (λ i lt. network-written Stands four-stand n i m lt) n 0 (omega arith)
@@ -195,10 +194,12 @@ depth-around name pairs p at d h =
     omega arith
 
 element-shallow : (name : List ℕ) (pairs : List Pair) (p : Piece) (d : ℕ) → IsShallow d p → IsShallow (d + 1) (element name pairs p)
-element-shallow name pairs p d h = record { within = λ at.
-    let same : depth_of (node_of (around_at name pairs p at)) ≡ depth_of_element (around_at name pairs p at) = fold-roll-Node ℕ ℕ node_depth element_depth (Node-F.Element (around_at name pairs p at)) in
-    let inner = depth-around name pairs p at d h in
-    (omega arith, tt) }
+element-shallow name pairs p d h = record {
+  within = λ at.
+      let same : depth_of (node_of (around_at name pairs p at)) ≡ depth_of_element (around_at name pairs p at) = fold-roll-Node ℕ ℕ node_depth element_depth (Node-F.Element (around_at name pairs p at)) in
+      let inner = depth-around name pairs p at d h in
+      (omega arith, tt);
+}
 
 both-shallow : (d : ℕ) (p q : Piece) → IsShallow d p → IsShallow d q → IsShallow d (both p q)
 both-shallow d p q h g = record { within = λ at. within-append d (p.nodes at) (q.nodes (at + length p.bytes)) (h.within at) (g.within (at + length p.bytes)) }
@@ -221,9 +222,9 @@ root-shallow variables body h g =
     let lists = element-shallow (codes "interface") [] (element (codes "localVars") [] variables) 11 (element-shallow (codes "localVars") [] variables 10 h) in
     let bodies = element-shallow (codes "body") [] (element (codes "FBD") [] body) 11 (element-shallow (codes "FBD") [] body 10 g) in
     let all = depth-around (codes "project") namespace (inside variables body) 0 15 (element-shallow (codes "types") [] (element (codes "pous") [] (program variables body)) 14 (element-shallow (codes "pous") [] (program variables body) 13
-      (element-shallow (codes "pou") (with (codes "name") (codes "Bench") ∷ with (codes "pouType") (codes "program") ∷ [])
-            (both (element (codes "interface") [] (element (codes "localVars") [] variables)) (element (codes "body") [] (element (codes "FBD") [] body))) 12
-        (both-shallow 12 (element (codes "interface") [] (element (codes "localVars") [] variables)) (element (codes "body") [] (element (codes "FBD") [] body)) lists bodies)))) in
+    (element-shallow (codes "pou") (with (codes "name") (codes "Bench") ∷ with (codes "pouType") (codes "program") ∷ [])
+    (both (element (codes "interface") [] (element (codes "localVars") [] variables)) (element (codes "body") [] (element (codes "FBD") [] body))) 12
+    (both-shallow 12 (element (codes "interface") [] (element (codes "localVars") [] variables)) (element (codes "body") [] (element (codes "FBD") [] body)) lists bodies)))) in
     omega arith
 
 -- a text of such bytes
