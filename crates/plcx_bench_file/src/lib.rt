@@ -1,0 +1,2 @@
+//! The exchange file of the project that `bench N` measures.
+#![tactic(auto)]
