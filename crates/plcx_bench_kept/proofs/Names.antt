@@ -89,7 +89,7 @@ name_length i small = let few = length-decimal-le 3 i (omega arith) (omega arith
 
 -- a text that begins with a V, is short and goes on with digits is an identifier
 identifier : (ds : List ℕ) → length (86 ∷ ds) ≤ 4 → list_all is_next_byte ds ≡ true → is_identifier (86 ∷ ds) ≡ true
-identifier ds few e = rw (le-leb (length (86 ∷ ds)) 128 (omega arith), e) refl
+identifier ds few e = rw (lt-ltb 0 (length (86 ∷ ds)) (omega arith), le-leb (length (86 ∷ ds)) 128 (omega arith), e) refl
 
 -- the name of a variable may be declared
 pub name_is_free : (i : ℕ) → i < 1000 → is_bad_name (variable_name i) ≡ false

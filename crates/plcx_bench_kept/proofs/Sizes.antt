@@ -42,10 +42,10 @@ networks_parts n a (suc k) m =
     omega arith
 
 -- at most so many leaves and parts, and no instance of a function block
-pub record IsSmall (leaves parts : ℕ) (c : Content) : Type 0 where
-  pub leaves : c.leaves ≤ leaves
-  pub parts : c.parts ≤ parts
-  pub none : c.blocks ≡ []
+record IsSmall (most_leaves most_parts : ℕ) (c : Content) : Type 0 where
+  leaves : c.leaves ≤ most_leaves
+  parts : c.parts ≤ most_parts
+  none : c.blocks ≡ []
 
 one_more : (pous : List DraftPou) (l p start i : ℕ) (c : Content) → IsSmall l p c → IsSmall (l + 1) p (with_variable pous Local c (variable_at start i))
 one_more pous l p start i c h = record {
