@@ -22,10 +22,12 @@ use Rattle.plcx_bench_file.proofs.Digits.{number-decimal, coordinate-decimal}
 use Rattle.plcx_bench_draft.specs.BenchDraft.{program_start, variables_start, variables_at, bench_draft}
 use Rattle.plcx_bench_draft.proofs.Elements.{read, placed, pin, body_start, input_read, addition_read, output_read, declaration_read, program_read}
 
+-- what stands in one piece is read, and then what stands in the next
 both_read : {A : Type 0} (part : Element → Option A) (p q : Piece) (xs ys : List A) (at : ℕ)
     → read part (p.nodes at) ≡ xs → read part (q.nodes (at + length p.bytes)) ≡ ys → read part ((both p q).nodes at) ≡ xs ++ ys
 both_read part p q xs ys at e f = filter_map-append (λ (n : Node). part_in part (out-Node n)) (p.nodes at) (q.nodes (at + length p.bytes)) ∙ ap₂ (λ us vs. us ++ vs) e f
 
+-- pieces in a row, each of which is read as a list, wherever it stands
 row_read : {A : Type 0} (part : Element → Option A) (f : ℕ → Piece) (g : ℕ → List A) (m : ℕ) → ((i at : ℕ) → i < m → read part ((f i).nodes at) ≡ g i)
     → (a k at : ℕ) → a + k ≤ m → read part ((in_a_row (map f (range_with_len a k))).nodes at) ≡ flat_map g (range_with_len a k)
 row_read part f g m each a zero at small = refl
@@ -55,6 +57,7 @@ four_read at one two three last y name next =
     (both_read element_in b (both c d) _ _ behind_a (input_read behind_a two y (codes "DINT#1"))
     (both_read element_in c d _ _ behind_b (addition_read behind_b three y one two) (output_read behind_c last y three next)))
 
+-- numbers are read back as they were printed
 number_back : (i place : ℕ) → i < 1000 → place ≤ 4 → or_zero (number_of (decimal (id_in i place))) ≡ id_in i place
 number_back i place small few = ap or_zero (number-decimal (id_in i place) (omega arith))
 

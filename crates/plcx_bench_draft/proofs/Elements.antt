@@ -34,6 +34,7 @@ abbrev pub body_start : Piece → ℕ
 body_start variables = program_start + length (start_tag (codes "pou") program_attributes) + length (element (codes "interface") [] (element (codes "localVars") [] variables)).bytes
     + length (start_tag (codes "body") []) + length (start_tag (codes "FBD") [])
 
+-- the parts of a network
 pub input_read : (at : ℕ) (id y text : List ℕ) → read element_in ((file.input id y text).nodes at) ≡ placed id y (kind.In text plain) ∷ []
 unfolding element_in kind_in child_for values_of attribute_of number_at first_child first_part parts_of text_of text_under modifiers_in is_marked edge_in storage_in order_in number_of coordinate_of digits_behind is_decimal magnitude_of
 input_read at id y text = simp out-roll-Node refl
@@ -47,14 +48,18 @@ pub addition_read : (at : ℕ) (id y left right : List ℕ) → read element_in 
 unfolding element_in kind_in block_in child_for values_of attribute_of number_at first_child first_part parts_of text_of text_under input_pin output_pin input_of connection_in modifiers_in is_marked edge_in storage_in order_in number_of coordinate_of digits_behind is_decimal magnitude_of
 addition_read at id y left right = simp out-roll-Node refl
 
-pub output_read : (at : ℕ) (id y sum text : List ℕ) → read element_in ((file.output id y sum text).nodes at) ≡ placed id y (kind.Out (to (or_zero (number_of sum)) (codes "OUT")) text plain) ∷ []
+pub output_read : (at : ℕ) (id y sum text : List ℕ) → read element_in ((file.output id y sum text).nodes at)
+    ≡ placed id y (kind.Out (to (or_zero (number_of sum)) (codes "OUT")) text plain) ∷ []
 unfolding element_in kind_in child_for values_of attribute_of number_at first_child first_part parts_of text_of text_under input_of connection_in modifiers_in is_marked edge_in storage_in order_in number_of coordinate_of digits_behind is_decimal magnitude_of
 output_read at id y sum text = simp out-roll-Node refl
 
-pub declaration_read : (at : ℕ) (name : List ℕ) → read variable_in ((file.declaration name).nodes at) ≡ record { name = name; address = []; ty = Plain ty.Dint; initial = None; start = at } ∷ []
+-- a variable
+pub declaration_read : (at : ℕ) (name : List ℕ) → read variable_in ((file.declaration name).nodes at)
+    ≡ record { name = name; address = []; ty = Plain ty.Dint; initial = None; start = at } ∷ []
 unfolding variable_in values_of attribute_of first_child first_part parts_of type_in type_of initial_in
 declaration_read at name = simp out-roll-Node refl
 
+-- a file of one program, whatever its variables and networks are
 pub program_read : (variables body : Piece) → draft_in (file.root variables body) ≡ record {
   pous = record {
     name = codes "Bench";

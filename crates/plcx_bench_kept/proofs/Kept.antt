@@ -1,7 +1,6 @@
 -- The declarations of the file break no rule.
-use Rattle.std.proofs.Common.{◌≡◌, ℕ, zero, suc, ◌+◌, ◌≤◌, ◌<◌, Bool, true, false, ◌||◌, List, [], ◌∷◌, ◌++◌, length, map, None, codes, refl, ap, sym, subst, ◌∙◌, arith, true≢false, append-nil}
+use Rattle.std.proofs.Common.{◌≡◌, ℕ, zero, suc, ◌+◌, ◌≤◌, ◌<◌, Bool, true, false, ◌||◌, List, [], ◌∷◌, length, map, None, refl, ap, sym, subst, ◌∙◌, arith, true≢false, append-nil}
 use Rattle.std.specs.List.{range_with_len}
-use Rattle.std.specs.Str.{bytes_eq}
 use Rattle.plcx_types.specs.Name.{in_lower_case}
 use Rattle.plcx_model.specs.Verdict.{Verdict, Never, Kept, Next}
 use Rattle.plcx_draft.specs.declared.draft.Draft.{Draft}
@@ -42,9 +41,10 @@ module _ (pous : List DraftPou) (r : DeclarationRule) (list : DraftList) where
   alone_kept : ((before : List Declared) (start i : ℕ) → i < 1000 → breaks pous r before (OfVariable list (variable_at start i)) ≡ false)
       → (a k start : ℕ) (before : List Declared) → a + k ≤ 1000 → Never (BreaksIn pous r) before (declared list start (range_with_len a k))
   alone_kept each a zero start before small = tt
-  alone_kept each a (suc k) start before small =
-      (is_not _ (each before start a (omega arith)),
-      alone_kept each (a + 1) k (start + length (declaration (variable_name a)).bytes) (OfVariable list (variable_at start a) ∷ before) (omega arith))
+  alone_kept each a (suc k) start before small = (
+    is_not _ (each before start a (omega arith)),
+    alone_kept each (a + 1) k (start + length (declaration (variable_name a)).bytes) (OfVariable list (variable_at start a) ∷ before) (omega arith),
+  )
 
 -- no variable from the a-th on has its name among these
 abbrev IsAhead : ℕ → List Declared → Type 0
@@ -57,13 +57,16 @@ ahead_more : (list : DraftList) (a start : ℕ) (before : List Declared) → a <
 ahead_more list a start before small ahead i from to =
     neither _ _ (two_names i a to small (λ e. omega arith)) (ahead i (omega arith) to)
 
+-- no name of a variable stands twice
 names_kept : (pous : List DraftPou) (list : DraftList) (a k start : ℕ) (before : List Declared) → a + k ≤ 1000 → IsAhead a before
     → Never (BreaksIn pous rule.VariableNames) before (declared list start (range_with_len a k))
 unfolding breaks
 names_kept pous list a zero start before small ahead = tt
-names_kept pous list a (suc k) start before small ahead =
-    (is_not _ (ahead a (omega arith) (omega arith)),
-    names_kept pous list (a + 1) k (start + length (declaration (variable_name a)).bytes) (OfVariable list (variable_at start a) ∷ before) (omega arith) (ahead_more list a start before (omega arith) ahead))
+names_kept pous list a (suc k) start before small ahead = (
+  is_not _ (ahead a (omega arith) (omega arith)),
+  names_kept pous list (a + 1) k (start + length (declaration (variable_name a)).bytes) (OfVariable list (variable_at start a) ∷ before) (omega arith)
+      (ahead_more list a start before (omega arith) ahead),
+)
 
 module _ (pous : List DraftPou) (n : ℕ) (few : n ≤ 1000) where
   -- a rule that neither the program nor a variable breaks

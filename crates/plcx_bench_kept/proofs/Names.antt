@@ -1,5 +1,5 @@
 -- The names of the ring: each is one that may be declared, and no two are one name.
-use Rattle.std.proofs.Common.{◌≡◌, ℕ, ◌+◌, ◌-◌, ◌^◌, ◌≤◌, ◌<◌, Bool, true, false, not, ◌&&◌, ◌||◌, nat_eq, nat_le, List, [], ◌∷◌, length, map, codes, decimal, refl, ap, sym, ◌∙◌, arith, le-leb, lt-ltb, le-ltb, eqb-true}
+use Rattle.std.proofs.Common.{◌≡◌, ℕ, ◌+◌, ◌-◌, ◌≤◌, ◌<◌, Bool, true, false, not, ◌&&◌, nat_eq, nat_le, List, [], ◌∷◌, length, map, codes, decimal, refl, ap, sym, ◌∙◌, arith, le-leb, lt-ltb, le-ltb, eqb-true}
 use Rattle.std.proofs.lemmas.Fmt.{decimal_injective, decimal_nonempty, length-decimal-le}
 use Rattle.std.proofs.lemmas.Slice.Eq.{bytes_eq-Decides}
 use Rattle.std.specs.Char.{to_ascii_lowercase}
@@ -23,6 +23,7 @@ and_second false b e = cc
 
 -- ---- in lower case
 
+-- a character that is the same in lower case
 keeps_case : ℕ → Bool
 keeps_case c = nat_eq (to_ascii_lowercase c) c
 
@@ -46,7 +47,8 @@ tail_same x xs ys e = cc
 
 -- the names of two variables are two
 pub two_names : (i j : ℕ) → i < 1000 → j < 1000 → (i ≡ j → ⊥) → bytes_eq (in_lower_case (variable_name i)) (in_lower_case (variable_name j)) ≡ false
-two_names i j small other differ = by (bytes_eq (in_lower_case (variable_name i)) (in_lower_case (variable_name j))) (bytes_eq-Decides (in_lower_case (variable_name i)) (in_lower_case (variable_name j))).0
+two_names i j small other differ =
+    by (bytes_eq (in_lower_case (variable_name i)) (in_lower_case (variable_name j))) (bytes_eq-Decides (in_lower_case (variable_name i)) (in_lower_case (variable_name j))).0
   where
     by : (b : Bool) → (b ≡ true → in_lower_case (variable_name i) ≡ in_lower_case (variable_name j)) → b ≡ false
     by false same = refl
@@ -54,7 +56,7 @@ two_names i j small other differ = by (bytes_eq (in_lower_case (variable_name i)
 
 -- ---- what may be declared
 
--- with this behind a V, no name is kept from diagrams
+-- a name that begins with a V, this character and the rest is not reserved
 is_free : List ℕ → ℕ → Bool
 is_free rest c = not (is_reserved (86 ∷ (c ∷ rest)))
 
@@ -96,9 +98,11 @@ pub name_is_free : (i : ℕ) → i < 1000 → is_bad_name (variable_name i) ≡ 
 unfolding is_bad_name
 name_is_free i small =
     let short = name_length i small in
-    rw (identifier (decimal i) short (all-decimal is_next_byte next_digits i (omega arith)),
-        le-ltb 64 (length (variable_name i)) (omega arith),
-        free (decimal i) (decimal_nonempty i (omega arith)) (all-decimal is_digit all_digits i (omega arith))) refl
+    rw (
+      identifier (decimal i) short (all-decimal is_next_byte next_digits i (omega arith)),
+      le-ltb 64 (length (variable_name i)) (omega arith),
+      free (decimal i) (decimal_nonempty i (omega arith)) (all-decimal is_digit all_digits i (omega arith)),
+    ) refl
 
 -- the name of the program may be declared
 pub bench_is_free : is_bad_name (codes "Bench") ≡ false

@@ -2,7 +2,6 @@
 use Rattle.std.proofs.Common.{◌≡◌, ℕ, List, [], ◌∷◌, length, ◌+◌, map, refl, ap, ap₂, ◌∙◌}
 use Rattle.std.specs.List.{range_with_len}
 use Rattle.plcx_draft.specs.declared.draft.DraftPou.{DraftPou}
-use Rattle.plcx_draft.specs.DraftIn.{draft_in}
 use Rattle.plcx_model.specs.declared.project.Variable.{Variable}
 use Rattle.plcx_model.specs.declared.project.Project.{Project}
 use Rattle.plcx_profile.specs.ProjectIn.{variable_of, list_of, pou_of, settled}
@@ -10,7 +9,7 @@ use Rattle.plcx_profile.specs.Profile.{project_in}
 use Rattle.plcx_model.specs.declared.project.PouKind.TheVariants.{Program}
 use Rattle.plcx_model.specs.declared.project.ListClass.TheVariants.{Local}
 use Rattle.std.specs.Prelude.{codes, false}
-use Rattle.plcx_bench_project.specs.Bench.{IsMeasured, IsBench, variable_name, variable, ring, ring_elements}
+use Rattle.plcx_bench_project.specs.Bench.{IsMeasured, IsBench, variable_name, variable, ring_elements}
 use Rattle.plcx_bench_file.specs.File.{declaration, bench_root}
 use Rattle.plcx_bench_draft.specs.BenchDraft.{variable_at, variables_start, variables_at, bench_program, bench_draft}
 use Rattle.plcx_bench_draft.proofs.Drafted.{root_drafts}
@@ -25,12 +24,14 @@ all_settled pous start (i ∷ is) = ap₂ (λ (x : Variable) (xs : List Variable
 
 -- a project of one program with these variables and n networks
 abbrev with_variables : ℕ → List Variable → Project
-with_variables n variables = record { pous = record {
-  name = codes "Bench";
-  kind = Program;
-  lists = record { class = Local; constant = false; retain = false; variables = variables } ∷ [];
-  body = record { ladder = false; elements = ring_elements n };
-} ∷ [] }
+with_variables n variables = record {
+  pous = record {
+    name = codes "Bench";
+    kind = Program;
+    lists = record { class = Local; constant = false; retain = false; variables = variables } ∷ [];
+    body = record { ladder = false; elements = ring_elements n };
+  } ∷ [];
+}
 
 draft_settled : (n : ℕ) → IsBench n (settled (bench_draft n))
 unfolding settled pou_of list_of

@@ -1,5 +1,5 @@
 -- What the ring's program has by itself: few leaves, few parts, and no instance.
-use Rattle.std.proofs.Common.{◌≡◌, ℕ, zero, suc, ◌+◌, ◌*◌, ◌^◌, ◌≤◌, ◌<◌, min, Bool, false, ◌||◌, nat_lt, List, [], ◌∷◌, ◌++◌, length, flat_map, fold, refl, ap, sym, ◌∙◌, arith, le-ltb, append-nil}
+use Rattle.std.proofs.Common.{◌≡◌, ℕ, zero, suc, ◌+◌, ◌*◌, ◌^◌, ◌≤◌, false, List, [], ◌∷◌, length, flat_map, fold, refl, ◌∙◌, arith, le-ltb, append-nil}
 use Rattle.std.proofs.lemmas.Grind.{fold-append}
 use Rattle.std.proofs.lemmas.List.FromFn.{length-range_with_len}
 use Rattle.std.specs.List.{range_with_len}
@@ -78,4 +78,6 @@ small_fits cs c l p h few fewer =
 
 -- the program is not too large
 pub program_fits : (pous : List DraftPou) (cs : List Content) (n : ℕ) → n ≤ 1000 → is_too_large cs (content_of pous (bench_program n)) ≡ false
-program_fits pous cs n few = small_fits cs (content_of pous (bench_program n)) (0 + length (range_with_len 0 n)) (7 * n) (program_small pous n) (let e = length-range_with_len 0 n in omega arith) (omega arith)
+program_fits pous cs n few =
+    small_fits cs (content_of pous (bench_program n)) (0 + length (range_with_len 0 n))
+    (7 * n) (program_small pous n) (let e = length-range_with_len 0 n in omega arith) (omega arith)
