@@ -1,2 +1,4 @@
 pub mod Stands
-pub mod Try
+pub mod Digits
+pub mod Ring
+pub mod Form

@@ -1,20 +1,19 @@
 -- Pieces whose bytes are made of tokens, at every offset and whatever follows them.
-use Rattle.std.proofs.Common.{◌≡◌, ◌≤◌, ◌<◌, ◌+◌, ℕ, Bool, true, List, [], ◌∷◌, ◌++◌, length, map, fold, refl, ap, sym, subst, ◌∙◌, arith, append_assoc, append-nil, length-append}
+use Rattle.std.proofs.Common.{◌≡◌, ◌<◌, ◌+◌, ℕ, true, List, [], ◌∷◌, ◌++◌, length, map, fold, refl, ap, sym, subst, ◌∙◌, arith, append_assoc, append-nil, length-append}
 use Rattle.std.specs.List.{list_all, flat_map}
 use Rattle.std.proofs.lemmas.List.Concat.{flat_map-append}
 use Rattle.plcx_types.specs.declared.span.Span.{Span}
 use Rattle.plcx_xml.specs.Character.{is_value, is_plain, is_text}
-use Rattle.plcx_xml.specs.Grammar.{IsName, SpellsPiece, Plain, SpellsAttribute, SpellsAttributes, SpellsTag, SpellsEnd, StandsAt, AreTokens, span_from}
-use Rattle.plcx_xml.specs.Events.{Event, Begin, End, Chars, events_of, events_of_element, token_events, with_event, joined}
+use Rattle.plcx_xml.specs.Grammar.{IsName, Plain, SpellsAttribute, SpellsAttributes, SpellsTag, SpellsEnd, StandsAt, AreTokens, span_from}
+use Rattle.plcx_xml.specs.Events.{Event, Begin, End, Chars, events_of, token_events, with_event}
 use Rattle.plcx_xml.specs.declared.tree.Attribute.{Attribute}
 use Rattle.plcx_xml.specs.declared.tree.Node.{Node}
-use Rattle.plcx_xml.specs.declared.tree.Element.{Element}
 use Rattle.plcx_xml.specs.declared.token.Kind.TheVariants as kind
 use Rattle.plcx_xml.specs.declared.token.Token.{Token}
 use Rattle.plcx_xml.proofs.Reached.{offset-next}
 use Rattle.plcx_xml.proofs.Texts.{with-begin, with-ended}
 use Rattle.plcx_xml.proofs.Views.{node-element, node-text, element-around}
-use Rattle.plcx_bench_file.specs.Markup.{Piece, Pair, quoted, spelled, spelled_all, attributes_at, tag, start_tag, end_tag, element_of, node_of, around, around_at, element, empty, words, nothing, both, in_a_row}
+use Rattle.plcx_bench_file.specs.Markup.{Piece, Pair, quoted, spelled, spelled_all, attributes_at, tag, start_tag, end_tag, element_of, node_of, around, element, empty, words, nothing, both}
 
 pub record Stands (p : Piece) : Type 0 where
   pub tokens : ℕ → List Token
@@ -140,11 +139,11 @@ pub both-stand : (p q : Piece) → Stands p → Stands q → Stands (both p q)
 both-stand p q h g = record {
   tokens = λ at. h.tokens at ++ g.tokens (at + length p.bytes);
   spelled = λ at rest.
-    let n = length-append p.bytes (q.bytes ++ rest) in
-    rw (append_assoc p.bytes q.bytes rest) (tokens-append (h.tokens at) (g.tokens (at + length p.bytes)) at (at + length p.bytes) (p.bytes ++ (q.bytes ++ rest)) (q.bytes ++ rest) rest (h.spelled at (q.bytes ++ rest)) (omega arith) (g.spelled (at + length p.bytes) rest));
+      let n = length-append p.bytes (q.bytes ++ rest) in
+      rw (append_assoc p.bytes q.bytes rest) (tokens-append (h.tokens at) (g.tokens (at + length p.bytes)) at (at + length p.bytes) (p.bytes ++ (q.bytes ++ rest)) (q.bytes ++ rest) rest (h.spelled at (q.bytes ++ rest)) (omega arith) (g.spelled (at + length p.bytes) rest));
   events = λ at. flat_map-append token_events (h.tokens at) (g.tokens (at + length p.bytes))
-    ∙ (ap (λ (es : List Event). es ++ flat_map token_events (g.tokens (at + length p.bytes))) (h.events at)
-    ∙ (ap (λ (es : List Event). flat_map events_of (p.nodes at) ++ es) (g.events (at + length p.bytes)) ∙ sym (flat_map-append events_of (p.nodes at) (q.nodes (at + length p.bytes)))));
+      ∙ (ap (λ (es : List Event). es ++ flat_map token_events (g.tokens (at + length p.bytes))) (h.events at)
+      ∙ (ap (λ (es : List Event). flat_map events_of (p.nodes at) ++ es) (g.events (at + length p.bytes)) ∙ sym (flat_map-append events_of (p.nodes at) (q.nodes (at + length p.bytes)))));
   joins = λ at. subst Joins (sym (flat_map-append events_of (p.nodes at) (q.nodes (at + length p.bytes)))) (joins-append (flat_map events_of (p.nodes at)) (flat_map events_of (q.nodes (at + length p.bytes))) (h.joins at) (g.joins (at + length p.bytes)));
 }
 
@@ -167,21 +166,21 @@ inside-stands : (name : List ℕ) (pairs : List Pair) (p : Piece) → IsName nam
 inside-stands name pairs p n h g = record {
   tokens = λ at. begun at name pairs ∷ (g.tokens (at + length (start_tag name pairs)) ++ ended (at + length (start_tag name pairs) + length p.bytes) name ∷ []);
   spelled = λ at rest.
-    let k = at + length (start_tag name pairs) in
-    let around_it = append_assoc (start_tag name pairs) (p.bytes ++ end_tag name) rest ∙ ap (λ (xs : List ℕ). start_tag name pairs ++ xs) (append_assoc p.bytes (end_tag name) rest) in
-    let behind = p.bytes ++ (end_tag name ++ rest) in
-    let n1 = length-append p.bytes (end_tag name ++ rest) in
-    subst (λ (xs : List ℕ). AreTokens at xs (begun at name pairs ∷ (g.tokens k ++ ended (k + length p.bytes) name ∷ [])) rest) (sym around_it)
+      let k = at + length (start_tag name pairs) in
+      let around_it = append_assoc (start_tag name pairs) (p.bytes ++ end_tag name) rest ∙ ap (λ (xs : List ℕ). start_tag name pairs ++ xs) (append_assoc p.bytes (end_tag name) rest) in
+      let behind = p.bytes ++ (end_tag name ++ rest) in
+      let n1 = length-append p.bytes (end_tag name ++ rest) in
+      subst (λ (xs : List ℕ). AreTokens at xs (begun at name pairs ∷ (g.tokens k ++ ended (k + length p.bytes) name ∷ [])) rest) (sym around_it)
       (behind, begins at name pairs behind n h, tokens-append (g.tokens k) (ended (k + length p.bytes) name ∷ []) k (k + length p.bytes) behind (end_tag name ++ rest) rest (g.spelled k (47 ∷ (name ++ (62 ∷ [])) ++ rest)) (omega arith) (rest, ends (k + length p.bytes) name rest n, refl));
   events = λ at.
-    let k = at + length (start_tag name pairs) in
-    let a = length-append (start_tag name pairs) (p.bytes ++ end_tag name) in
-    let b = length-append p.bytes (end_tag name) in
-    let e : k + length p.bytes + length (end_tag name) ≡ at + length (around name pairs p.bytes) = omega arith in
-    ap (λ (es : List Event). Begin name (attributes_at (at + 1 + length name) pairs) at ∷ es) (flat_map-append token_events (g.tokens k) (ended (k + length p.bytes) name ∷ []))
-    ∙ (ap (λ (es : List Event). framed name (attributes_at (at + 1 + length name) pairs) at (k + length p.bytes + length (end_tag name)) es) (g.events k)
-    ∙ (ap (λ (end : ℕ). framed name (attributes_at (at + 1 + length name) pairs) at end (flat_map events_of (p.nodes k))) e
-    ∙ sym (element-events name pairs (p.nodes k) at (around name pairs p.bytes))));
+      let k = at + length (start_tag name pairs) in
+      let a = length-append (start_tag name pairs) (p.bytes ++ end_tag name) in
+      let b = length-append p.bytes (end_tag name) in
+      let e : k + length p.bytes + length (end_tag name) ≡ at + length (around name pairs p.bytes) = omega arith in
+      ap (λ (es : List Event). Begin name (attributes_at (at + 1 + length name) pairs) at ∷ es) (flat_map-append token_events (g.tokens k) (ended (k + length p.bytes) name ∷ []))
+      ∙ (ap (λ (es : List Event). framed name (attributes_at (at + 1 + length name) pairs) at (k + length p.bytes + length (end_tag name)) es) (g.events k)
+      ∙ (ap (λ (end : ℕ). framed name (attributes_at (at + 1 + length name) pairs) at end (flat_map events_of (p.nodes k))) e
+      ∙ sym (element-events name pairs (p.nodes k) at (around name pairs p.bytes))));
   joins = λ at. subst Joins (sym (element-events name pairs (p.nodes (at + length (start_tag name pairs))) at (around name pairs p.bytes))) (g.joins (at + length (start_tag name pairs)) name (attributes_at (at + 1 + length name) pairs) at (at + length (around name pairs p.bytes)));
 }
 
@@ -202,12 +201,8 @@ words-inside text some plain = record {
   spelled = λ at rest. (60 ∷ rest, record { text = text; spelled = (refl, some, plain); whole = refl; split = refl; spanned = refl }, refl);
   events = λ at. sym (words-events text (record { start = at; end = at }));
   joins = λ at name attributes start end. subst (λ (es : List Event). Joins (framed name attributes start end es)) (sym (words-events text (record { start = at; end = at })))
-    (joins-append (Begin name attributes start ∷ (Chars text (span_from at (length text)) ∷ [])) (End name end ∷ []) (joins-words name attributes start text (span_from at (length text))) (joins-end name end));
+      (joins-append (Begin name attributes start ∷ (Chars text (span_from at (length text)) ∷ [])) (End name end ∷ []) (joins-words name attributes start text (span_from at (length text))) (joins-end name end));
 }
 
 pub words-stand : (name : List ℕ) (pairs : List Pair) (text : List ℕ) → IsName name → ArePairs pairs → 0 < length text → list_all is_text text ≡ true → Stands (element name pairs (words text))
 words-stand name pairs text n h some plain = inside-stands name pairs (words text) n h (words-inside text some plain)
-
-pub row-stands : {A : Type 0} (f : A → Piece) → ((x : A) → Stands (f x)) → (xs : List A) → Stands (in_a_row (map f xs))
-row-stands f h [] = nothing-stands
-row-stands f h (x ∷ xs) = both-stand (f x) (in_a_row (map f xs)) (h x) (row-stands f h xs)

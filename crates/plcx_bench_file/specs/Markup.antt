@@ -1,11 +1,9 @@
 -- Pieces of an exchange file: how each is spelled, and which parts of a tree it stands for, from an offset on.
 use Rattle.std.specs.Prelude.{ℕ, ◌+◌, List, [], ◌∷◌, ◌++◌, length}
-use Rattle.plcx_types.specs.declared.span.Span.{Span}
 use Rattle.plcx_xml.specs.Grammar.{span_from}
 use Rattle.plcx_xml.specs.declared.tree.Attribute.{Attribute}
-use Rattle.plcx_xml.specs.declared.tree.Text.{Text}
 use Rattle.plcx_xml.specs.declared.tree.Node.{Node, roll-Node}
-use Rattle.plcx_xml.specs.declared.tree.Node.TheOpen.{Node-F, Element-F}
+use Rattle.plcx_xml.specs.declared.tree.Node.TheOpen.{Node-F}
 use Rattle.plcx_xml.specs.declared.tree.Element.{Element, roll-Element}
 
 -- the bytes, and the parts of a tree where they begin at an offset
