@@ -1,0 +1,4 @@
+pub mod Names
+pub mod Sizes
+pub mod Kept
+pub mod Settled
