@@ -64,9 +64,9 @@ pub record Measured (n : ℕ) : Type 0 where
   pub diagrams : diagram.Project
   pub are : AreMeasured n diagrams
   pub program : Pou
-  pub drawn : diagram.program_named (ring n).name diagrams ≡ Some program
-  pub text : PouText
-  pub written : text.program_named (ring n).name (unit_of diagrams) ≡ Some text
+  pub named : diagram.program_named (ring n).name diagrams ≡ Some program
+  pub written : PouText
+  pub written_named : text.program_named (ring n).name (unit_of diagrams) ≡ Some written
 
 -- what the diagram comes to
 abbrev pub diagram_sum : {n : ℕ} → Measured n → ℤ
@@ -74,7 +74,7 @@ diagram_sum m = sum_at_end (diagram_machine m.diagrams m.program)
 
 -- and the text
 abbrev pub text_sum : {n : ℕ} → Measured n → ℤ
-text_sum m = sum_at_end (text_machine (unit_of m.diagrams) m.text)
+text_sum m = sum_at_end (text_machine (unit_of m.diagrams) m.written)
 
 -- a line of a summary
 abbrev pub line : List ℕ → List ℕ → List ℕ
