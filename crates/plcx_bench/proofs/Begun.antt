@@ -1,9 +1,8 @@
 -- Sides that begin with initial values.
-use Rattle.std.proofs.Common.{◌≡◌, ◌∙◌, ℕ, zero, suc, ℤ, pos, Bool, true, false, List, [], ◌∷◌, map, refl, sym, ap, ap₂, subst}
-use Rattle.std.specs.Prelude.{◌&&◌, Option, Some, None, if◌then◌else◌}
+use Rattle.std.proofs.Common.{◌≡◌, ◌∙◌, ℕ, zero, suc, ℤ, pos, Bool, true, false, List, [], ◌∷◌, refl, sym, ap, ap₂, subst}
+use Rattle.std.specs.Prelude.{◌&&◌, Some, None, if◌then◌else◌}
 use Rattle.std.proofs.Math.Path.{fun_ext}
 use Rattle.plcx_types.specs.Lists.{Each}
-use Rattle.plcx_types.specs.declared.ty.Ty.{Ty}
 use Rattle.plcx_meaning.specs.Base.{Path, same_path, is_declared}
 use Rattle.plcx_meaning.specs.Diagram as diagram
 use Rattle.plcx_meaning.specs.Diagram.{Pou, Project}
@@ -13,13 +12,12 @@ use Rattle.plcx_meaning.specs.Execute as text
 use Rattle.plcx_meaning.specs.Execute.{TextState, text_machine}
 use Rattle.plcx_meaning.specs.Layout.{Leaf as Meant, Scope, Spelling, Variable, Meaning, Elementary, Composed, meaning, is_kept, is_retained, initial_at, leaf_of, variable_leaves, leaves, layout, begun, initial_in}
 use Rattle.plcx_meaning.specs.Run.{Side, begin_side}
-use Rattle.plcx_meaning.specs.Tree.{PouText, Mark}
+use Rattle.plcx_meaning.specs.Tree.{PouText}
 use Rattle.plcx_meaning.proofs.Lists.{each_from, each_flat_map}
 use Rattle.plcx_meaning.proofs.Starts.{path_same}
 use Rattle.plcx_state.specs.declared.layout.Leaf.{Leaf}
-use Rattle.plcx_state.specs.Layouts.{Laid, all_meant, meant, meant_path}
-use Rattle.plcx_state.specs.Layouts as laid
-use Rattle.plcx_state.specs.Retains.{at, kept_at, kept_of, initially_kept, number_of}
+use Rattle.plcx_state.specs.Layouts.{Laid, all_meant, meant_path}
+use Rattle.plcx_state.specs.Retains.{kept_at, kept_of, initially_kept, number_of}
 use Rattle.plcx_traced.proofs.Made.{kept_at_same}
 use Rattle.plcx_opening.specs.Opening as drawn
 use Rattle.plcx_text_layout.specs.Opening as written

@@ -5,6 +5,8 @@ use Rattle.std.proofs.Math.IntN.{+ℤ_assoc, +ℤ_idl, +ℤ_idr}
 use Rattle.plcx_types.specs.Value.{Value}
 use Rattle.plcx_meaning.specs.Base.{Path}
 use Rattle.plcx_meaning.specs.Layout.{Leaf as Meant}
+use Rattle.plcx_meaning.specs.Run.{Machine, Side}
+use Rattle.plcx_meaning.specs.Traces.{shown_values}
 use Rattle.plcx_state.specs.declared.layout.Leaf.{Leaf}
 use Rattle.plcx_state.specs.Layouts.{all_meant, meant, meant_path}
 use Rattle.plcx_state.specs.Retains.{Pairwise, numbers, Agrees}
@@ -20,11 +22,14 @@ left_sum (l ∷ leaves) (w ∷ values) zero leaf v a b = refl
 left_sum (l ∷ leaves) (w ∷ values) (suc i) leaf v a b = left_sum leaves values i leaf v (omega arith) (omega arith)
 
 -- one more is added
-pub next_sum : (leaves : List Leaf) (values : List Value) (i : ℕ) (leaf : Leaf) (v : Value) (was all : ℤ) → i < length leaves → i < length values
-    → was +ℤ sum_in (drop i leaves) (drop i values) ≡ all
-    → (was +ℤ number_in (get_or leaves i leaf) (get_or values i v)) +ℤ sum_in (drop (suc i) leaves) (drop (suc i) values) ≡ all
-next_sum leaves values i leaf v was all a b h =
-    +ℤ_assoc was (number_in (get_or leaves i leaf) (get_or values i v)) (sum_in (drop (suc i) leaves) (drop (suc i) values))
+pub next_sum : (leaves : List Leaf) (values : List Value) (i : ℕ) (leaf : Leaf) (v : Value) (was n now all : ℤ) → i < length leaves → i < length values
+    → leaf ≡ get_or leaves i leaf → v ≡ get_or values i v → n ≡ number_in leaf v → now ≡ was +ℤ n → was +ℤ sum_in (drop i leaves) (drop i values) ≡ all
+    → now +ℤ sum_in (drop (i + 1) leaves) (drop (i + 1) values) ≡ all
+next_sum leaves values i leaf v was n now all a b there held is added h =
+    let next : i + 1 ≡ suc i = omega arith in
+    let rest = λ (j : ℕ). sum_in (drop j leaves) (drop j values) in
+    ap₂ (λ z j. z +ℤ rest j) (added ∙ ap (λ z. was +ℤ z) (is ∙ ap₂ number_in there held)) next
+    ∙ +ℤ_assoc was (number_in (get_or leaves i leaf) (get_or values i v)) (rest (suc i))
     ∙ ap (λ z. was +ℤ z) (sym (left_sum leaves values i leaf v a b)) ∙ h
 
 -- nothing is left
@@ -57,3 +62,9 @@ shown_pairs store (leaf ∷ leaves) (v ∷ vs) h = by leaf.shown (sum_in leaves 
 pub shown_sum : (store : Path → ℤ) (leaves : List Leaf) (values : List Value) → Agrees leaves store (numbers values)
     → sum_in leaves values ≡ sum_of (map (λ (leaf : Meant). store leaf.path) (filter (λ (leaf : Meant). leaf.shown) (all_meant leaves)))
 shown_sum store leaves values h = shown_pairs store leaves values h.agrees
+
+-- and so it is what a side shows
+pub shown_behind : {G : Type 0} (m : Machine G) (g : Side G) (leaves ls : List Leaf) (values : List Value) → leaves ≡ ls → all_meant ls ≡ m.layout → Agrees ls (m.value g.state) (numbers values) → sum_in leaves values ≡ sum_of (shown_values m g)
+shown_behind {G} m g leaves ls values same are h =
+    ap (λ (xs : List Leaf). sum_in xs values) same ∙ shown_sum (m.value g.state) ls values h
+    ∙ ap (λ (ms : List Meant). sum_of (map (λ (leaf : Meant). m.value g.state leaf.path) (filter (λ (leaf : Meant). leaf.shown) ms))) are

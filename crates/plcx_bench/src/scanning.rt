@@ -36,7 +36,7 @@ fn number_in(leaf: &Leaf, value: Val) -> i128
 }
 
 /// The sum of the values of shown leaves.
-#[tactic(auto, using(crate::proofs::Sums::next_sum, crate::proofs::Sums::last_sum))]
+#[tactic(auto, using(crate::proofs::Sums::last_sum))]
 fn sum_in(leaves: &[Leaf], values: &[Val]) -> i128
     requires few { length leaves.now ≤ 2 ^ 32 }
     requires long { length leaves.now ≡ length values.now }
