@@ -4,6 +4,7 @@
 //! someone listens to the scans of the diagram.
 #![tactic(auto)]
 
+mod benching;
 mod law;
 mod scanning;
 mod sides;
@@ -11,5 +12,6 @@ mod summary;
 mod text;
 mod watching;
 
+pub use benching::bench;
 pub use law::one_summary;
 pub use summary::summary_of;
