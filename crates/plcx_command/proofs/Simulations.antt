@@ -21,7 +21,7 @@ use Rattle.plcx_command.specs.Verdict.{Verdict, FileVerdict, Within, Passed}
 use Rattle.plcx_command.specs.declared.status.Status.{Status}
 use Rattle.plcx_command.specs.declared.status.Status.TheVariants as status
 use Rattle.plcx_command.proofs.Forms.{OneRun, MissingRun, file_of_run, reads_file, reads_kept, reads_events}
-use Rattle.plcx_command.proofs.Found.{tells-same, unread_to_come, IsFollowed, Kind}
+use Rattle.plcx_command.proofs.Found.{tells-same, IsFollowed, Kind}
 use Rattle.plcx_command.proofs.Statuses.{status_for, done}
 use Rattle.plcx_command.proofs.Laws.{IsAnswered, answered, accepted-verdict, ByVerdict, passes, fails, by_verdict, done-passes}
 

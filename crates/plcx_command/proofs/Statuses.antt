@@ -26,7 +26,6 @@ reason status.NoMemory = Some why'.NoMemory
 reason status.TextBroken = Some why'.TextBroken
 reason status.EventsBroken = Some why'.EventsBroken
 reason status.NoProgram = Some why'.NoProgram
-reason status.NotBuilt = Some why'.NotBuilt
 reason status.TasksBroken = Some why'.TasksBroken
 
 reason_back : (why : Refused) → reason (status_of why) ≡ Some why
@@ -37,7 +36,6 @@ reason_back why'.NoMemory = refl
 reason_back why'.TextBroken = refl
 reason_back why'.EventsBroken = refl
 reason_back why'.NoProgram = refl
-reason_back why'.NotBuilt = refl
 reason_back why'.TasksBroken = refl
 
 -- a status tells one reason
