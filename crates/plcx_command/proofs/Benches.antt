@@ -1,11 +1,11 @@
 -- What a bench was answered.
-use Rattle.std.proofs.Common.{◌≡◌, ◌∙◌, ℕ, List, sym, ap, subst, ◌⊎◌, inl, inr, Option, Some}
+use Rattle.std.proofs.Common.{◌≡◌, ◌∙◌, ℕ, List, sym, subst, ◌⊎◌, inl, inr, Option, Some}
 use Rattle.plcx_meaning.specs.Evaluate.{Heard}
 use Rattle.plcx_words.specs.Command.{Command, bench}
 use Rattle.plcx_bench.specs.Summary.{IsSummary}
 use Rattle.plcx_command.specs.Answer.{Answer, output, memory_answer}
 use Rattle.plcx_command.specs.Benched.{AnswersBench}
-use Rattle.plcx_command.specs.Ends.{Ends, Change, Written, Gets, Unchanged, MaySay}
+use Rattle.plcx_command.specs.Ends.{Ends, Change, Written, MaySay}
 use Rattle.plcx_command.specs.Headline.{BenchesExactly}
 use Rattle.plcx_command.specs.Says.{Says}
 use Rattle.plcx_command.specs.declared.status.Status.{Status}

@@ -1,5 +1,5 @@
 -- What stands behind an answer, whatever the command is.
-use Rattle.std.proofs.Common.{◌≡◌, ◌≢◌, ◌≤◌, ◌∙◌, ℕ, List, length, true, refl, sym, ap, subst, ◌⊎◌, inl, inr, Option, Some, None}
+use Rattle.std.proofs.Common.{◌≡◌, ◌≢◌, ◌≤◌, ◌∙◌, ℕ, List, length, refl, sym, ap, subst, Option, Some, None}
 use Rattle.std.specs.Prelude.{Result, Ok, Err}
 use Rattle.plcx_io.specs.Told.{Tells}
 use Rattle.plcx_types.specs.Limits.{max_file_bytes}
@@ -20,7 +20,7 @@ use Rattle.plcx_command.specs.Cycled.{IsCycled, answer_to_cycle}
 use Rattle.plcx_command.specs.Headline.{project_file}
 use Rattle.plcx_command.specs.Migrated.{NotMigrated, ComesTo, action_of, answer_to_migration}
 use Rattle.plcx_command.specs.TextRun.{answer_to_text, text_refused, text_error_line}
-use Rattle.plcx_command.specs.Says.{Says, SaysOver, AfterRead, fault, too_long, whole, file_of, Follows, Answers}
+use Rattle.plcx_command.specs.Says.{Says, SaysOver, fault, too_long, whole, file_of, Follows, Answers}
 use Rattle.plcx_command.specs.Simulated.{RunForm, Trace, Coverage, run_action, IsSimulated, answer_to}
 use Rattle.plcx_command.specs.Verdict as verdict
 use Rattle.plcx_command.specs.Verdict.{Verdict, IsVerdict, FileVerdict, Keeps, TooLong, Within, Passed, Refused, at_byte}

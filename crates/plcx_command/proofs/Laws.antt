@@ -1,6 +1,6 @@
 -- What each status was written for.
 use Rattle.std.proofs.Common.{◌≡◌, ◌≢◌, ◌↔◌, ◌∙◌, ℕ, Bool, List, [], true, false, true≢false, refl, sym, ap, subst, ◌⊎◌, inl, inr, Option, Some, None}
-use Rattle.std.specs.Prelude.{Ok, Err, unwrap_or}
+use Rattle.std.specs.Prelude.{Err, unwrap_or}
 use Rattle.plcx_io.specs.Told.{Tells}
 use Rattle.plcx_meaning.specs.Evaluate.{Heard}
 use Rattle.plcx_words.specs.Command.{Command, Run, Migration, check, compile, simulate, run, bench, cycle, migrate, report, cover}
@@ -15,7 +15,7 @@ use Rattle.plcx_cycle.specs.declared.error.CycleError.TheVariants as cycle_error
 use Rattle.plcx_migrate.specs.declared.migrating.Form.{Form}
 use Rattle.plcx_migrate.specs.declared.migrating.Form.TheVariants.{Lines, Report}
 use Rattle.plcx_bench.specs.Watching.{HearsFront}
-use Rattle.plcx_command.specs.Answer.{Answer, output, refusal, ok_line, ok_answer, usage_line, usage_answer, read_answer, read_line, broken_answer, memory_answer, memory_line, write_line}
+use Rattle.plcx_command.specs.Answer.{Answer, output, refusal, ok_line, ok_answer, usage_line, usage_answer, read_line, broken_answer, memory_answer, memory_line, write_line}
 use Rattle.plcx_command.specs.Causes.{Cause, of_run, of_text, of_cycle, of_migration, Stops, Comes, cause_refused, cause_line}
 use Rattle.plcx_command.specs.Ends.{Ends, Change, Written, Gets, GetsFront, Unchanged, MaySay}
 use Rattle.plcx_command.specs.Headline.{IsDefined, project_file, TellsSources, IsReached, first, later, IsRefusal}
@@ -35,7 +35,7 @@ use Rattle.plcx_command.specs.declared.status.Refused.TheVariants as why'
 use Rattle.plcx_command.specs.declared.status.Status.{Status}
 use Rattle.plcx_command.specs.declared.status.Status.TheVariants as status
 use Rattle.plcx_command.proofs.Forms.{file_of_run}
-use Rattle.plcx_command.proofs.Found.{tells-same, no_file, IsFollowed, Found, faulty, measured, unread, breaks, traced, stopped, accepts, found, IsCauseOver, Kind, gives, refuses, kind}
+use Rattle.plcx_command.proofs.Found.{tells-same, no_file, IsFollowed, Found, faulty, measured, unread, breaks, traced, stopped, accepts, found, IsCauseOver, gives, refuses, kind}
 use Rattle.plcx_command.proofs.Statuses.{status_for, no_reason, defined-status, done, IsRefusedBy, refused}
 
 -- what a run or a migration may be refused for

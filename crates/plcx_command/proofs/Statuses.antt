@@ -1,8 +1,8 @@
 -- The status by which an answer is written.
-use Rattle.std.proofs.Common.{◌≡◌, ◌≢◌, ◌∙◌, ℕ, List, refl, sym, ap, subst, ◌⊎◌, inl, inr, Option, Some, None}
+use Rattle.std.proofs.Common.{◌≡◌, ◌∙◌, ℕ, List, refl, sym, ap, subst, inl, inr, Option, Some, None}
 use Rattle.plcx_io.specs.Counts.{Rose}
-use Rattle.plcx_command.specs.Answer.{Answer, output, refusal, memory_answer, memory_line}
-use Rattle.plcx_command.specs.Ends.{Change, Written, Gets, GetsFront, Unchanged}
+use Rattle.plcx_command.specs.Answer.{Answer, output, refusal, memory_answer}
+use Rattle.plcx_command.specs.Ends.{Change, Written, Gets, Unchanged}
 use Rattle.plcx_command.specs.Headline.{IsDefined}
 use Rattle.plcx_command.specs.Refused.{status_of}
 use Rattle.plcx_command.specs.declared.status.Refused.{Refused}
