@@ -1,7 +1,7 @@
-//! The run of a bench: the diagram of its project and the text of that, each over ten scans, and the summary of both.
+//! A bench: the project of a number of networks is made, checked and compiled, and its text is printed and read back.
 //!
-//! The text is compiled, printed and read back. Both sums are of values that the sides show behind their scans, and
-//! someone listens to the scans of the diagram.
+//! The diagram and the text each go through ten scans, and both sums are of values that the sides show behind them.
+//! Someone listens to the scans of the diagram.
 #![tactic(auto)]
 
 mod benching;
@@ -14,4 +14,3 @@ mod watching;
 
 pub use benching::bench;
 pub use law::one_summary;
-pub use summary::summary_of;

@@ -53,7 +53,7 @@ fn summary(alloc: Global, networks: u64, diagram: i128, text: i128) -> Result<Ve
 }
 
 /// The summary of the project that is measured with n networks. The watch is told what is heard of its diagram.
-pub fn summary_of<W: Watch>(
+pub(crate) fn summary_of<W: Watch>(
     alloc: Global,
     checked: &Checked,
     n: u64,
