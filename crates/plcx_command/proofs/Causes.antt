@@ -1,5 +1,5 @@
 -- What an action that comes to a cause, or can be done, was answered for.
-use Rattle.std.proofs.Common.{◌≡◌, ◌≢◌, ◌↔◌, ◌∙◌, ◌≤◌, ℕ, List, true, length, refl, sym, ap, subst, ◌⊎◌, inl, inr, Option, Some, None}
+use Rattle.std.proofs.Common.{◌≡◌, ◌≢◌, ◌∙◌, ◌≤◌, ℕ, List, length, refl, sym, ap, subst, inl, inr, Option, Some, None}
 use Rattle.std.specs.Prelude.{Result, Ok, Err}
 use Rattle.plcx_io.specs.Told.{Tells}
 use Rattle.plcx_types.specs.Limits.{max_file_bytes}
@@ -18,7 +18,7 @@ use Rattle.plcx_command.specs.Answer.{Answer, output, refusal, broken_line}
 use Rattle.plcx_command.specs.Causes.{Cause, of_run, of_text, of_cycle, of_migration, Stops, Comes, cause_refused, cause_line}
 use Rattle.plcx_command.specs.Compiled.{HasDiagrams}
 use Rattle.plcx_command.specs.Ends.{Ends, Change, Written, Gets}
-use Rattle.plcx_command.specs.Headline.{IsDefined, is_to_come, project_file, IsSource, Reads, Never, IsTold, TellsSources, TellsAll, IsFine, IsJudged, IsBroken, RefusesBroken, RefusesFor, IsComplete}
+use Rattle.plcx_command.specs.Headline.{IsDefined, project_file, IsSource, Reads, Never, IsTold, TellsSources, TellsAll, IsFine, IsJudged, IsBroken, RefusesBroken, RefusesFor, IsComplete}
 use Rattle.plcx_command.specs.Migrated as migrated
 use Rattle.plcx_command.specs.Migrated.{NotMigrated, OldProgram, NewRead, NewBroken, NewProgram, RetainedRead, Line, action_of, answer_to_migration, migration_refused, AnswersMigration, Migrates}
 use Rattle.plcx_command.specs.Refused.{status_of}
@@ -34,7 +34,7 @@ use Rattle.plcx_command.specs.declared.status.Refused.TheVariants as why'
 use Rattle.plcx_command.specs.declared.status.Status.{Status}
 use Rattle.plcx_command.specs.declared.status.Status.TheVariants as status
 use Rattle.plcx_command.proofs.Forms.{OneRun, MissingRun, file_of_run, reads_file}
-use Rattle.plcx_command.proofs.Found.{tells-same, unread_to_come, IsFollowed, Found, faulty, unbuilt, unread, breaks, traced, stopped, accepts, found, IsCauseOver, gives, refuses, kind}
+use Rattle.plcx_command.proofs.Found.{tells-same, no_file, IsFollowed, Found, faulty, measured, unread, breaks, traced, stopped, accepts, found, IsCauseOver, gives, refuses, kind}
 use Rattle.plcx_command.proofs.Laws.{IsAnswered, answered, found-refusal, accepted-verdict, cause-comes, cause-stops, file_of_action, no_project}
 use Rattle.plcx_command.proofs.Migrations.{one_migrated, one_early, IsEarly, migrates_accepted, outcome_there, reads_old, reads_new, reads_retained}
 use Rattle.plcx_command.proofs.Migrations as migrations
@@ -154,7 +154,7 @@ module _ (one_verdict : (bytes : List ℕ) (v w : Verdict) → FileVerdict bytes
 
   broken-found : (command : Option Command) (a : Answer) (line : List ℕ) → a ≡ refusal why'.Broken line → Found told rose command a → IsBrokenLine command line
   broken-found command a line is (faulty n e) = absurd (cc)
-  broken-found command a line is (unbuilt t e) = absurd (cc)
+  broken-found command a line is (measured n m text h e) = absurd (cc)
   broken-found command a line is (unread name p r e) = absurd (cc)
   broken-found command a line is (breaks b name p v e) = of_first b (cc) name p v
   broken-found command a line is (traced r n text h e) = absurd (cc)
@@ -186,7 +186,7 @@ module _ (one_verdict : (bytes : List ℕ) (v w : Verdict) → FileVerdict bytes
   judged-broken : (command : Option Command) (a : Answer) (s : Status) (b : model.Broken) → IsDefined s → s ≡ status_for a → IsJudged told command (verdict.Broken b)
       → Found told rose command a → s ≡ status.Broken
   judged-broken command a s b d st j (faulty n e) = let p = j.reads in absurd (cc)
-  judged-broken command a s b d st j (unbuilt t e) = absurd (unread_to_come command j.name t j.reads)
+  judged-broken command a s b d st j (measured n m text h e) = absurd (no_file command n j.name m j.reads)
   judged-broken command a s b d st j (unread name p r e) = absurd (subst IsDefined (st ∙ ap status_for e) d)
   judged-broken command a s b d st j (breaks b' name p v e) = st ∙ ap status_for e
   judged-broken command a s b d st j (traced r n text h e) = absurd (no_project command r j.name n j.reads)
@@ -238,14 +238,14 @@ module _ (one_verdict : (bytes : List ℕ) (v w : Verdict) → FileVerdict bytes
     comes : TellsSources told command → Comes told Never cause
 
   refusal-found : (why : Refused) → IsDefined (status_of why) → (command : Option Command) (a : Answer) (line : List ℕ) → a ≡ refusal why line → why ≢ why'.Usage
-      → why ≢ why'.NotBuilt → why ≢ why'.Broken → Found told rose command a
+      → why ≢ why'.Broken → Found told rose command a
       → IsRefusal why command line
-  refusal-found why d command a line is u n b (faulty m e) = absurd (u (cc))
-  refusal-found why d command a line is u n b (unbuilt t e) = absurd (n (cc))
-  refusal-found why d command a line is u n b (unread name p r e) = let same : why ≡ why'.ReadFault = cc in absurd (subst (λ y. IsDefined (status_of y)) same d)
-  refusal-found why d command a line is u n b (breaks x name p v e) = absurd (b (cc))
-  refusal-found why d command a line is u n b (traced r m text h e) = absurd (cc)
-  refusal-found why d command a line is u n b (stopped r m x h t e) =
+  refusal-found why d command a line is u b (faulty m e) = absurd (u (cc))
+  refusal-found why d command a line is u b (measured n m text h e) = absurd (cc)
+  refusal-found why d command a line is u b (unread name p r e) = let same : why ≡ why'.ReadFault = cc in absurd (subst (λ y. IsDefined (status_of y)) same d)
+  refusal-found why d command a line is u b (breaks x name p v e) = absurd (b (cc))
+  refusal-found why d command a line is u b (traced r m text h e) = absurd (cc)
+  refusal-found why d command a line is u b (stopped r m x h t e) =
       let why_is : text_refused x ≡ why = cc in
       let text : line ≡ text_error_line r x = cc in
       record {
@@ -255,7 +255,7 @@ module _ (one_verdict : (bytes : List ℕ) (v w : Verdict) → FileVerdict bytes
         line_is = text;
         comes = λ k. text-calm one_verdict told rose Became r (Err x) (subst (λ y. IsDefined (status_of y)) (sym why_is) d) h;
       }
-  refusal-found why d command a line is u n b (accepts c m name p f) = elim (kind told rose c f.bytes a f.follows) [
+  refusal-found why d command a line is u b (accepts c m name p f) = elim (kind told rose c f.bytes a f.follows) [
     | gives text e ↦ absurd (cc)
     | refuses x i e ↦
         let why_is : cause_refused x ≡ why = cc in
@@ -392,10 +392,10 @@ module _ (one_verdict : (bytes : List ℕ) (v w : Verdict) → FileVerdict bytes
   tasks_settle command k (of_migration form m RetainedRead) w is h a s d answer = absurd (cc)
   tasks_settle command k (of_migration form m (Line n)) w is h a s d answer = absurd (cc)
 
-  pub refuses_for : (why : Refused) (Tells : Type 0) → IsDefined (status_of why) → why ≢ why'.Usage → why ≢ why'.NotBuilt → why ≢ why'.Broken → (command : Option Command)
+  pub refuses_for : (why : Refused) (Tells : Type 0) → IsDefined (status_of why) → why ≢ why'.Usage → why ≢ why'.Broken → (command : Option Command)
       → (Tells → TellsSources told command) → Settles why Tells command
       → (s : Status) (out err : Change) → Ends told rose Became command s out err → RefusesFor why Tells told command s out err
-  refuses_for why Tells dw u n b command project settles s out err ends = (
+  refuses_for why Tells dw u b command project settles s out err ends = (
     (λ k d. (
       (λ e. let l = line e in (l.cause, l.why_is, l.stops, l.comes (project k))),
       (λ h. settles k h.0 h.1 h.2 h.3 ends.answer s d (answered one_verdict told rose Became command s out err d ends)),
@@ -408,7 +408,7 @@ module _ (one_verdict : (bytes : List ℕ) (v w : Verdict) → FileVerdict bytes
 
       line : (e : s ≡ status_of why) → IsRefusal why command (of e).line
       line e =
-          refusal-found why dw command ends.answer (of e).line (of e).is u n b
+          refusal-found why dw command ends.answer (of e).line (of e).is u b
           (found-refusal one_verdict told rose Became why command ends.answer (of e).line (λ x. subst (λ y. IsDefined (status_of y)) x dw) (of e).is ends.said)
 
   -- ---- completeness
@@ -427,7 +427,7 @@ module _ (one_verdict : (bytes : List ℕ) (v w : Verdict) → FileVerdict bytes
       subst (λ (b : List ℕ). FileVerdict b verdict.Accepted) own h.2
   fine-verdict (Some (simulate r)) name bytes h p k = let same : r.file ≡ name = cc in simulates-accepted one_verdict one_list one_outcome missing told rose Became Trace r (Ok h.0) bytes (ap told same ∙ k) h.1
   fine-verdict (Some (run r)) name bytes h p k = absurd (cc)
-  fine-verdict (Some (bench n)) name bytes h p k = absurd h
+  fine-verdict (Some (bench n)) name bytes h p k = absurd (cc)
   fine-verdict (Some (cycle t)) name bytes h p k = let same : t.file ≡ name = cc in cycles-accepted one_verdict told rose Became t (Ok h.0) bytes (ap told same ∙ k) h.1
   fine-verdict (Some (migrate m)) name bytes h p k = let same : m.old ≡ name = cc in migrates_accepted one_verdict one_list told rose Became Lines m (Ok h.0) bytes (ap told same ∙ k) h.1
   fine-verdict (Some (report m)) name bytes h p k = let same : m.old ≡ name = cc in migrates_accepted one_verdict one_list told rose Became Report m (Ok h.0) bytes (ap told same ∙ k) h.1
@@ -487,7 +487,7 @@ module _ (one_verdict : (bytes : List ℕ) (v w : Verdict) → FileVerdict bytes
       let file : name ≡ r.file = cc in
       fine-run Trace r f.bytes a f.short (subst (λ (z : List ℕ). Tells (told z) f.bytes) file f.tells) h.0 h.1 all quiet f.follows
   fine-follows (run r) name a is h all quiet f = absurd f.follows
-  fine-follows (bench n) name a is h all quiet f = absurd h
+  fine-follows (bench n) name a is h all quiet f = absurd f.follows
   fine-follows (cycle t) name a is h all quiet f =
       let file : name ≡ t.file = cc in
       fine_cycle one_verdict told rose Became t one_tree one_list one_cycle f.bytes a f.short (subst (λ (z : List ℕ). Tells (told z) f.bytes) file f.tells) h.0 h.1 all quiet f.follows
@@ -504,19 +504,7 @@ module _ (one_verdict : (bytes : List ℕ) (v w : Verdict) → FileVerdict bytes
   fine-output : (command : Option Command) (a : Answer) → IsFine told command → TellsAll told command → ((x : List ℕ) → Reads command x → rose x → ⊥)
       → Found told rose command a → (text : List ℕ) × (a ≡ output text)
   fine-output command a h all quiet (faulty n e) = absurd (subst (IsFine told) n h)
-  fine-output command a h all quiet (unbuilt t e) = absurd (not_to_come command t h)
-    where
-      not_to_come : (c : Option Command) → is_to_come c ≡ true → IsFine told c → ⊥
-      not_to_come None t h = cc
-      not_to_come (Some (check n)) t h = cc
-      not_to_come (Some (compile n)) t h = cc
-      not_to_come (Some (simulate r)) t h = cc
-      not_to_come (Some (run r)) t h = cc
-      not_to_come (Some (bench n)) t h = h
-      not_to_come (Some (cycle c)) t h = cc
-      not_to_come (Some (migrate m)) t h = cc
-      not_to_come (Some (report m)) t h = cc
-      not_to_come (Some (cover r)) t h = cc
+  fine-output command a h all quiet (measured n m text k e) = (text, e)
   fine-output command a h all quiet (unread name p r e) = absurd (quiet name (first-read command name p) r)
   fine-output command a h all quiet (breaks b name p v e) =
       let held = all name (first-read command name p) in

@@ -1,5 +1,5 @@
 -- What stands behind an answer, whatever the command is.
-use Rattle.std.proofs.Common.{◌≡◌, ◌≢◌, ◌≤◌, ◌∙◌, ℕ, List, length, true, refl, sym, ap, subst, ◌⊎◌, inl, inr, Option, Some, None}
+use Rattle.std.proofs.Common.{◌≡◌, ◌≢◌, ◌≤◌, ◌∙◌, ℕ, List, length, refl, sym, ap, subst, Option, Some, None}
 use Rattle.std.specs.Prelude.{Result, Ok, Err}
 use Rattle.plcx_io.specs.Told.{Tells}
 use Rattle.plcx_types.specs.Limits.{max_file_bytes}
@@ -13,13 +13,14 @@ use Rattle.plcx_text_run.specs.declared.running.TextRunError.TheVariants as text
 use Rattle.plcx_cycle.specs.declared.error.CycleError.{CycleError}
 use Rattle.plcx_migrate.specs.declared.migrating.Form.{Form}
 use Rattle.plcx_migrate.specs.declared.migrating.Form.TheVariants.{Lines, Report}
-use Rattle.plcx_command.specs.Answer.{Answer, output, refusal, usage_answer, not_built_answer, read_answer, broken_answer}
+use Rattle.plcx_bench.specs.Summary.{IsSummary}
+use Rattle.plcx_command.specs.Answer.{Answer, output, refusal, usage_answer, read_answer, broken_answer}
 use Rattle.plcx_command.specs.Causes.{Cause, of_run, of_text, of_cycle, of_migration, cause_refused, cause_line}
 use Rattle.plcx_command.specs.Cycled.{IsCycled, answer_to_cycle}
-use Rattle.plcx_command.specs.Headline.{project_file, is_to_come}
+use Rattle.plcx_command.specs.Headline.{project_file}
 use Rattle.plcx_command.specs.Migrated.{NotMigrated, ComesTo, action_of, answer_to_migration}
 use Rattle.plcx_command.specs.TextRun.{answer_to_text, text_refused, text_error_line}
-use Rattle.plcx_command.specs.Says.{Says, SaysOver, AfterRead, fault, too_long, whole, file_of, Follows, Answers}
+use Rattle.plcx_command.specs.Says.{Says, SaysOver, fault, too_long, whole, file_of, Follows, Answers}
 use Rattle.plcx_command.specs.Simulated.{RunForm, Trace, Coverage, run_action, IsSimulated, answer_to}
 use Rattle.plcx_command.specs.Verdict as verdict
 use Rattle.plcx_command.specs.Verdict.{Verdict, IsVerdict, FileVerdict, Keeps, TooLong, Within, Passed, Refused, at_byte}
@@ -29,18 +30,9 @@ use Rattle.plcx_command.specs.declared.line.ProjectFile.TheVariants.{First}
 pub tells-same : (told : Option (List ℕ)) (bytes held : List ℕ) → told ≡ Some held → Tells told bytes → bytes ≡ held
 tells-same told bytes held e t = (rw e at t)
 
--- where an action that is not built reads no file
-pub unread_to_come : (command : Option Command) (name : List ℕ) → is_to_come command ≡ true → project_file command ≡ Some name → ⊥
-unread_to_come None name t e = cc
-unread_to_come (Some (check n)) name t e = cc
-unread_to_come (Some (compile n)) name t e = cc
-unread_to_come (Some (simulate r)) name t e = cc
-unread_to_come (Some (run r)) name t e = cc
-unread_to_come (Some (bench n)) name t e = cc
-unread_to_come (Some (cycle c)) name t e = cc
-unread_to_come (Some (migrate m)) name t e = cc
-unread_to_come (Some (report m)) name t e = cc
-unread_to_come (Some (cover r)) name t e = cc
+-- a bench reads no file
+pub no_file : (command : Option Command) (n : ℕ) (name : List ℕ) → command ≡ Some (bench n) → project_file command ≡ Some name → ⊥
+no_file command n name is p = let none : None ≡ Some name = sym (ap project_file is) ∙ p in cc
 
 module _ (told : List ℕ → Option (List ℕ)) (rose : List ℕ → Type 0) where
   -- a file that is accepted, and what the action answers to it
@@ -54,7 +46,7 @@ module _ (told : List ℕ → Option (List ℕ)) (rose : List ℕ → Type 0) wh
 
   pub data Found (command : Option Command) (a : Answer) : Type 0 where
     faulty : command ≡ None → a ≡ usage_answer → Found command a
-    unbuilt : is_to_come command ≡ true → a ≡ not_built_answer → Found command a
+    measured : (n : ℕ) → command ≡ Some (bench n) → (text : List ℕ) → IsSummary n text → a ≡ output text → Found command a
     unread : (name : List ℕ) → project_file command ≡ Some name → rose name → a ≡ read_answer name → Found command a
     breaks : (b : model.Broken) (name : List ℕ) → project_file command ≡ Some name
         → ((bytes : List ℕ) → told name ≡ Some bytes → FileVerdict bytes (verdict.Broken b)) → a ≡ broken_answer First b → Found command a
@@ -82,7 +74,7 @@ module _ (told : List ℕ → Option (List ℕ)) (rose : List ℕ → Type 0) wh
   found (Some (compile name)) a h = found-over (compile name) name a refl h
   found (Some (simulate r)) a h = found-over (simulate r) r.file a refl h
   found (Some (run r)) a h = found-text r a h.outcome h.comes h.there h.answer
-  found (Some (bench n)) a h = unbuilt refl h
+  found (Some (bench n)) a h = measured n refl h.text h.is h.answer
   found (Some (cycle t)) a h = found-over (cycle t) t.file a refl h
   found (Some (migrate m)) a h = found-over (migrate m) m.old a refl h
   found (Some (report m)) a h = found-over (report m) m.old a refl h

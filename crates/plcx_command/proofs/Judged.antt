@@ -13,8 +13,8 @@ use Rattle.plcx_model.specs.Sound.{Sound}
 use Rattle.plcx_profile.specs.Profile.{IsElement, ProfileVerdict, StandsForProject, StandsForRoot, RefusesRoot, project_in}
 use Rattle.plcx_profile.specs.declared.error.ProfileError.TheVariants as error
 use Rattle.plcx_check.specs.declared.checked.Checked.{Checked}
-use Rattle.plcx_command.specs.JudgementOf.{IsChecked, IsJudgement, IsFault, IsJudgementOfProject, IsJudgementOfElement, OfProfile, OfProject, IsJudgementOfTree, HasTree}
-use Rattle.plcx_command.specs.Verdict.{Breaks, Keeps, InTree, InProfile, InProject}
+use Rattle.plcx_command.specs.JudgementOf.{IsJudgement, IsFault, IsJudgementOfProject, IsJudgementOfElement, OfProfile, OfProject, IsJudgementOfTree, HasTree}
+use Rattle.plcx_command.specs.Verdict.{InTree, InProfile, InProject}
 use Rattle.plcx_command.specs.declared.judging.Judgement.{Judgement}
 use Rattle.plcx_command.specs.declared.judging.Judgement.TheVariants.{Accepted, Broken}
 

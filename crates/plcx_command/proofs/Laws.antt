@@ -1,6 +1,6 @@
 -- What each status was written for.
 use Rattle.std.proofs.Common.{◌≡◌, ◌≢◌, ◌↔◌, ◌∙◌, ℕ, Bool, List, [], true, false, true≢false, refl, sym, ap, subst, ◌⊎◌, inl, inr, Option, Some, None}
-use Rattle.std.specs.Prelude.{Ok, Err, unwrap_or}
+use Rattle.std.specs.Prelude.{Err, unwrap_or}
 use Rattle.plcx_io.specs.Told.{Tells}
 use Rattle.plcx_meaning.specs.Evaluate.{Heard}
 use Rattle.plcx_words.specs.Command.{Command, Run, Migration, check, compile, simulate, run, bench, cycle, migrate, report, cover}
@@ -14,12 +14,13 @@ use Rattle.plcx_text_run.specs.declared.running.TextRunError.TheVariants as text
 use Rattle.plcx_cycle.specs.declared.error.CycleError.TheVariants as cycle_error
 use Rattle.plcx_migrate.specs.declared.migrating.Form.{Form}
 use Rattle.plcx_migrate.specs.declared.migrating.Form.TheVariants.{Lines, Report}
-use Rattle.plcx_command.specs.Answer.{Answer, output, refusal, ok_line, ok_answer, usage_line, usage_answer, read_answer, read_line, broken_answer, memory_answer, memory_line, not_built_line, not_built_answer, write_line}
+use Rattle.plcx_bench.specs.Watching.{HearsFront}
+use Rattle.plcx_command.specs.Answer.{Answer, output, refusal, ok_line, ok_answer, usage_line, usage_answer, read_line, broken_answer, memory_answer, memory_line, write_line}
 use Rattle.plcx_command.specs.Causes.{Cause, of_run, of_text, of_cycle, of_migration, Stops, Comes, cause_refused, cause_line}
 use Rattle.plcx_command.specs.Ends.{Ends, Change, Written, Gets, GetsFront, Unchanged, MaySay}
-use Rattle.plcx_command.specs.Headline.{IsDefined, project_file, TellsSources, is_to_come, IsReached, first, later, IsRefusal}
-use Rattle.plcx_command.specs.Headline.{CompilesExactly, ChecksExactly, RefusesUsage, RefusesNotBuilt, BlamesReads, BlamesWrites, TellsMemory, IsRefusing, WatchesExactly}
-use Rattle.plcx_command.specs.Hears.{Hears, HearsRun, HearsRefused}
+use Rattle.plcx_command.specs.Headline.{IsDefined, project_file, TellsSources, IsReached, first, later, IsRefusal}
+use Rattle.plcx_command.specs.Headline.{CompilesExactly, ChecksExactly, RefusesUsage, BlamesReads, BlamesWrites, TellsMemory, IsRefusing, WatchesExactly}
+use Rattle.plcx_command.specs.Hears.{Hears, HearsRun, HearsBench, HearsRefused, IsHeardInPart}
 use Rattle.plcx_command.specs.Migrated.{action_of, OldProgram, NewRead, NewBroken, NewProgram, RetainedRead, Line}
 use Rattle.plcx_command.specs.Refused.{status_of}
 use Rattle.plcx_command.specs.Says.{file_of}
@@ -34,13 +35,12 @@ use Rattle.plcx_command.specs.declared.status.Refused.TheVariants as why'
 use Rattle.plcx_command.specs.declared.status.Status.{Status}
 use Rattle.plcx_command.specs.declared.status.Status.TheVariants as status
 use Rattle.plcx_command.proofs.Forms.{file_of_run}
-use Rattle.plcx_command.proofs.Found.{tells-same, unread_to_come, IsFollowed, Found, faulty, unbuilt, unread, breaks, traced, stopped, accepts, found, IsCauseOver, Kind, gives, refuses, kind}
+use Rattle.plcx_command.proofs.Found.{tells-same, no_file, IsFollowed, Found, faulty, measured, unread, breaks, traced, stopped, accepts, found, IsCauseOver, gives, refuses, kind}
 use Rattle.plcx_command.proofs.Statuses.{status_for, no_reason, defined-status, done, IsRefusedBy, refused}
 
 -- what a run or a migration may be refused for
 abbrev is_for_cause : Refused → Bool
 is_for_cause why'.Usage = false
-is_for_cause why'.NotBuilt = false
 is_for_cause why'.Broken = true
 is_for_cause why'.ReadFault = true
 is_for_cause why'.NoMemory = true
@@ -84,10 +84,7 @@ pub file_of_action : (form : Form) (m : Migration) → file_of (action_of form m
 file_of_action Lines m = refl
 file_of_action Report m = refl
 
--- a run of a text is built, and reads no project file
-pub built : (command : Option Command) (r : Run) → command ≡ Some (run r) → is_to_come command ≡ true → ⊥
-built command r n t = true≢false (sym t ∙ ap is_to_come n)
-
+-- a run of a text reads no project file
 pub no_project : (command : Option Command) (r : Run) (name : List ℕ) → command ≡ Some (run r) → project_file command ≡ Some name → ⊥
 no_project command r name n is = let none : None ≡ Some name = sym (ap project_file n) ∙ is in cc
 
@@ -115,7 +112,7 @@ module _ (one_verdict : (bytes : List ℕ) (v w : Verdict) → FileVerdict bytes
 
   usage-found : (command : Option Command) (a : Answer) (line : List ℕ) → a ≡ refusal why'.Usage line → Found told rose command a → (command ≡ None) × (line ≡ usage_line)
   usage-found command a line is (faulty n e) = (n, cc)
-  usage-found command a line is (unbuilt t e) = absurd (cc)
+  usage-found command a line is (measured n m text h e) = absurd (cc)
   usage-found command a line is (unread name p r e) = absurd (cc)
   usage-found command a line is (breaks b name p v e) = absurd (cc)
   usage-found command a line is (traced r n text h e) = absurd (cc)
@@ -127,7 +124,7 @@ module _ (one_verdict : (bytes : List ℕ) (v w : Verdict) → FileVerdict bytes
 
   none-usage : (command : Option Command) (a : Answer) → command ≡ None → Found told rose command a → a ≡ usage_answer
   none-usage command a n (faulty m e) = e
-  none-usage command a n (unbuilt t e) = absurd (cc)
+  none-usage command a n (measured k m text h e) = absurd (cc)
   none-usage command a n (unread name p r e) = absurd (cc)
   none-usage command a n (breaks b name p v e) = absurd (cc)
   none-usage command a n (traced r m text h e) = absurd (cc)
@@ -149,45 +146,6 @@ module _ (one_verdict : (bytes : List ℕ) (v w : Verdict) → FileVerdict bytes
       said : s ≡ status.Usage → Found told rose command ends.answer
       said e = found-refusal why'.Usage command ends.answer (of e).line (λ x. cc) (of e).is ends.said
 
-  -- ---- what is not built
-
-  unbuilt-found : (command : Option Command) (a : Answer) (line : List ℕ) → a ≡ refusal why'.NotBuilt line → Found told rose command a
-      → (is_to_come command ≡ true) × (line ≡ not_built_line)
-  unbuilt-found command a line is (faulty n e) = absurd (cc)
-  unbuilt-found command a line is (unbuilt t e) = (t, cc)
-  unbuilt-found command a line is (unread name p r e) = absurd (cc)
-  unbuilt-found command a line is (breaks b name p v e) = absurd (cc)
-  unbuilt-found command a line is (traced r n text h e) = absurd (cc)
-  unbuilt-found command a line is (stopped r n x h m e) = let same : cause_refused (of_text r x) ≡ why'.NotBuilt = cc in absurd (not_for (of_text r x) why'.NotBuilt refl same)
-  unbuilt-found command a line is (accepts c n name p f) = elim (kind told rose c f.bytes a f.follows) [
-    | gives text e ↦ absurd (cc)
-    | refuses x i e ↦ let same : cause_refused x ≡ why'.NotBuilt = cc in absurd (not_for x why'.NotBuilt refl same)
-  ]
-
-  to_come-unbuilt : (command : Option Command) (a : Answer) → is_to_come command ≡ true → Found told rose command a → a ≡ not_built_answer
-  to_come-unbuilt command a t (faulty n e) = absurd (cc)
-  to_come-unbuilt command a t (unbuilt u e) = e
-  to_come-unbuilt command a t (unread name p r e) = absurd (unread_to_come command name t p)
-  to_come-unbuilt command a t (breaks b name p v e) = absurd (unread_to_come command name t p)
-  to_come-unbuilt command a t (traced r n text h e) = absurd (built command r n t)
-  to_come-unbuilt command a t (stopped r n x h m e) = absurd (built command r n t)
-  to_come-unbuilt command a t (accepts c n name p f) = absurd (unread_to_come command name t p)
-
-  pub refuses_not_built : (command : Option Command) (s : Status) (out err : Change) → Ends told rose Became command s out err → RefusesNotBuilt command s out err
-  refuses_not_built command s out err ends = (
-    (λ d. (
-      (λ e. (unbuilt-found command ends.answer (of e).line (of e).is (said e)).0),
-      (λ t. let a = answered command s out err d ends in a.status ∙ ap status_for (to_come-unbuilt command ends.answer t a.found)),
-    )),
-    (λ e. (subst (Gets err) (unbuilt-found command ends.answer (of e).line (of e).is (said e)).1 (of e).gets, (of e).quiet)),
-  )
-    where
-      of : s ≡ status.NotBuilt → IsRefusedBy why'.NotBuilt ends.answer out err
-      of e = refused why'.NotBuilt ends.answer s out err e ends.written
-
-      said : s ≡ status.NotBuilt → Found told rose command ends.answer
-      said e = found-refusal why'.NotBuilt command ends.answer (of e).line (λ x. cc) (of e).is ends.said
-
   -- the verdict on a file that is accepted
   pub accepted-verdict : (c : Command) (name bytes : List ℕ) (a : Answer) → told name ≡ Some bytes → IsFollowed told rose c name a → FileVerdict bytes verdict.Accepted
   accepted-verdict c name bytes a k f = subst (λ (x : List ℕ). FileVerdict x verdict.Accepted) (tells-same (told name) f.bytes bytes k f.tells) (Within f.short (Passed f.project f.keeps))
@@ -205,7 +163,7 @@ module _ (one_verdict : (bytes : List ℕ) (v w : Verdict) → FileVerdict bytes
     where
       by : Found told rose command a → s ≡ status_for a → ByVerdict command name bytes a
       by (faulty n e) st = absurd (cc)
-      by (unbuilt t e) st = absurd (unread_to_come command name t is)
+      by (measured n m text h e) st = absurd (no_file command n name m is)
       by (unread other p r e) st = absurd (subst IsDefined (st ∙ ap status_for e) d)
       by (breaks b other p v e) st = let same : other ≡ name = cc in fails b (v bytes (ap told same ∙ k)) e
       by (traced r n text h e) st = absurd (no_project command r name n is)
@@ -368,7 +326,7 @@ module _ (one_verdict : (bytes : List ℕ) (v w : Verdict) → FileVerdict bytes
 
   read-found : (command : Option Command) (a : Answer) (line : List ℕ) → a ≡ refusal why'.ReadFault line → Found told rose command a → IsReadLine command line
   read-found command a line is (faulty n e) = absurd (cc)
-  read-found command a line is (unbuilt t e) = absurd (cc)
+  read-found command a line is (measured n m text h e) = absurd (cc)
   read-found command a line is (unread name p r e) = record { name = name; reached = first p; rises = r; line_is = cc }
   read-found command a line is (breaks b name p v e) = absurd (cc)
   read-found command a line is (traced r n text h e) = absurd (cc)
@@ -436,7 +394,7 @@ module _ (one_verdict : (bytes : List ℕ) (v w : Verdict) → FileVerdict bytes
   -- want of memory is told by its own line
   memory-found : (command : Option Command) (a : Answer) (line : List ℕ) → a ≡ refusal why'.NoMemory line → Found told rose command a → ⊥
   memory-found command a line is (faulty n e) = cc
-  memory-found command a line is (unbuilt t e) = cc
+  memory-found command a line is (measured n m text h e) = cc
   memory-found command a line is (unread name p r e) = cc
   memory-found command a line is (breaks b name p v e) = cc
   memory-found command a line is (traced r n text h e) = cc
@@ -457,36 +415,35 @@ module _ (one_verdict : (bytes : List ℕ) (v w : Verdict) → FileVerdict bytes
 
   -- ---- what a watch hears
 
-  other-hears : (command : Option Command) (a : Answer) → ((r : Run) → command ≡ Some (simulate r) → ⊥) → Hears told Became command a → Became []
-  other-hears None a ne h = h
-  other-hears (Some (check n)) a ne h = h
-  other-hears (Some (compile n)) a ne h = h
-  other-hears (Some (simulate r)) a ne h = absurd (ne r refl)
-  other-hears (Some (run r)) a ne h = h
-  other-hears (Some (bench n)) a ne h = h
-  other-hears (Some (cycle t)) a ne h = h
-  other-hears (Some (migrate m)) a ne h = h
-  other-hears (Some (report m)) a ne h = h
-  other-hears (Some (cover r)) a ne h = h
+  other-hears : (command : Option Command) (a : Answer) → ((r : Run) → command ≡ Some (simulate r) → ⊥) → ((n : ℕ) → command ≡ Some (bench n) → ⊥) → Hears told Became command a → Became []
+  other-hears None a ne nor h = h
+  other-hears (Some (check n)) a ne nor h = h
+  other-hears (Some (compile n)) a ne nor h = h
+  other-hears (Some (simulate r)) a ne nor h = absurd (ne r refl)
+  other-hears (Some (run r)) a ne nor h = h
+  other-hears (Some (bench n)) a ne nor h = absurd (nor n refl)
+  other-hears (Some (cycle t)) a ne nor h = h
+  other-hears (Some (migrate m)) a ne nor h = h
+  other-hears (Some (report m)) a ne nor h = h
+  other-hears (Some (cover r)) a ne nor h = h
 
-  refused-run-hears : (r : Run) (why : Refused) → why ≢ why'.NoMemory → HearsRefused told Became r why → Became []
-  refused-run-hears r why'.Broken ne h = h
-  refused-run-hears r why'.Usage ne h = h
-  refused-run-hears r why'.ReadFault ne h = h
-  refused-run-hears r why'.NoMemory ne h = absurd (ne refl)
-  refused-run-hears r why'.TextBroken ne h = h
-  refused-run-hears r why'.EventsBroken ne h = h
-  refused-run-hears r why'.NoProgram ne h = h
-  refused-run-hears r why'.NotBuilt ne h = h
-  refused-run-hears r why'.TasksBroken ne h = h
+  nothing-heard : (part : Type 0) (why : Refused) → why ≢ why'.NoMemory → HearsRefused Became part why → Became []
+  nothing-heard part why'.Broken ne h = h
+  nothing-heard part why'.Usage ne h = h
+  nothing-heard part why'.ReadFault ne h = h
+  nothing-heard part why'.NoMemory ne h = absurd (ne refl)
+  nothing-heard part why'.TextBroken ne h = h
+  nothing-heard part why'.EventsBroken ne h = h
+  nothing-heard part why'.NoProgram ne h = h
+  nothing-heard part why'.TasksBroken ne h = h
 
   refused-hears : (command : Option Command) (why : Refused) (line : List ℕ) → why ≢ why'.NoMemory → Hears told Became command (refusal why line) → Became []
   refused-hears None why line ne h = h
   refused-hears (Some (check n)) why line ne h = h
   refused-hears (Some (compile n)) why line ne h = h
-  refused-hears (Some (simulate r)) why line ne h = refused-run-hears r why ne h
+  refused-hears (Some (simulate r)) why line ne h = nothing-heard (IsHeardInPart told r Became) why ne h
   refused-hears (Some (run r)) why line ne h = h
-  refused-hears (Some (bench n)) why line ne h = h
+  refused-hears (Some (bench n)) why line ne h = nothing-heard (HearsFront n Became) why ne h
   refused-hears (Some (cycle t)) why line ne h = h
   refused-hears (Some (migrate m)) why line ne h = h
   refused-hears (Some (report m)) why line ne h = h
@@ -508,18 +465,24 @@ module _ (one_verdict : (bytes : List ℕ) (v w : Verdict) → FileVerdict bytes
   refusing-hears command status.TextBroken out err ends h = quiet-status command status.TextBroken out err ends why'.TextBroken (λ x. cc) refl
   refusing-hears command status.EventsBroken out err ends h = quiet-status command status.EventsBroken out err ends why'.EventsBroken (λ x. cc) refl
   refusing-hears command status.NoProgram out err ends h = quiet-status command status.NoProgram out err ends why'.NoProgram (λ x. cc) refl
-  refusing-hears command status.NotBuilt out err ends h = quiet-status command status.NotBuilt out err ends why'.NotBuilt (λ x. cc) refl
   refusing-hears command status.TasksBroken out err ends h = quiet-status command status.TasksBroken out err ends why'.TasksBroken (λ x. cc) refl
 
   run-hears : (r : Run) (command : Option Command) (a : Answer) → command ≡ Some (simulate r) → Hears told Became command a → HearsRun told Became r a
   run-hears r command a is h = subst (λ (c : Option Command). Hears told Became c a) is h
 
+  bench-hears : (n : ℕ) (command : Option Command) (a : Answer) → command ≡ Some (bench n) → Hears told Became command a → HearsBench Became n a
+  bench-hears n command a is h = subst (λ (c : Option Command). Hears told Became c a) is h
+
   pub watches_exactly : (command : Option Command) (s : Status) (out err : Change) → Ends told rose Became command s out err → WatchesExactly told Became command s
   watches_exactly command s out err ends = record {
     done = λ r is e. let w = done ends.answer s out err e ends.written in (w.text, run-hears r command (output w.text) is (subst (Hears told Became command) w.is ends.heard));
-    other = λ ne. other-hears command ends.answer ne ends.heard;
+    bench_done = λ n is e. let w = done ends.answer s out err e ends.written in bench-hears n command (output w.text) is (subst (Hears told Became command) w.is ends.heard);
+    other = λ ne nor. other-hears command ends.answer ne nor ends.heard;
     refused = λ h. refusing-hears command s out err ends h;
     wanted = λ r is e.
         let w = refused why'.NoMemory ends.answer s out err e ends.written in
         run-hears r command (refusal why'.NoMemory w.line) is (subst (Hears told Became command) w.is ends.heard);
+    bench_wanted = λ n is e.
+        let w = refused why'.NoMemory ends.answer s out err e ends.written in
+        bench-hears n command (refusal why'.NoMemory w.line) is (subst (Hears told Became command) w.is ends.heard);
   }

@@ -12,3 +12,5 @@ pub mod TextRuns
 pub mod Causes
 pub mod Takes
 pub mod Carried
+pub mod Benches
+pub mod Measured

@@ -1,5 +1,5 @@
 -- What a migration was answered for, and that it comes to one thing.
-use Rattle.std.proofs.Common.{◌≡◌, ◌≢◌, ◌↔◌, ◌∙◌, ℕ, List, refl, sym, ap, subst, inl, inr, Option, Some}
+use Rattle.std.proofs.Common.{◌≡◌, ◌≢◌, ◌∙◌, ℕ, List, refl, sym, ap, subst, inl, inr, Option, Some}
 use Rattle.std.specs.Prelude.{Result, Ok, Err}
 use Rattle.plcx_meaning.specs.Diagram.{Project}
 use Rattle.plcx_meaning.specs.Evaluate.{Heard}

@@ -1,7 +1,6 @@
 -- What a simulation was answered for.
-use Rattle.std.proofs.Common.{◌≡◌, ◌↔◌, ◌∙◌, ℕ, List, refl, sym, ap, subst, ◌⊎◌, Option, Some, None}
+use Rattle.std.proofs.Common.{◌≡◌, ◌∙◌, ℕ, List, refl, sym, ap, subst, Option, Some, None}
 use Rattle.std.specs.Prelude.{Result, Ok, Err}
-use Rattle.plcx_io.specs.Counts.{Rose}
 use Rattle.plcx_meaning.specs.Diagram.{Project}
 use Rattle.plcx_meaning.specs.Evaluate.{Heard}
 use Rattle.plcx_words.specs.Command.{Command, Run}
@@ -10,9 +9,9 @@ use Rattle.plcx_traced.specs.declared.error.RunError.{RunError}
 use Rattle.plcx_traced.specs.declared.error.RunError.TheVariants as error
 use Rattle.plcx_traced.specs.Files.{WhyNotBegun}
 use Rattle.plcx_traced.specs.Runs.{AreTold}
-use Rattle.plcx_command.specs.Answer.{Answer, output, memory_answer}
+use Rattle.plcx_command.specs.Answer.{Answer, output}
 use Rattle.plcx_command.specs.Compiled.{HasDiagrams}
-use Rattle.plcx_command.specs.Ends.{Ends, Change, Gets, Unchanged, MaySay}
+use Rattle.plcx_command.specs.Ends.{Ends, Change, Gets, Unchanged}
 use Rattle.plcx_command.specs.Says.{Follows}
 use Rattle.plcx_command.specs.Headline.{IsDefined, project_file, Reads, Never, IsTold, TellsAll, LeavesExactly}
 use Rattle.plcx_command.specs.Simulated.{RunForm, Trace, Coverage, run_action, RunComesTo, Simulates, AnswersRun, answer_to}
@@ -21,9 +20,9 @@ use Rattle.plcx_command.specs.Verdict.{Verdict, FileVerdict, Within, Passed}
 use Rattle.plcx_command.specs.declared.status.Status.{Status}
 use Rattle.plcx_command.specs.declared.status.Status.TheVariants as status
 use Rattle.plcx_command.proofs.Forms.{OneRun, MissingRun, file_of_run, reads_file, reads_kept, reads_events}
-use Rattle.plcx_command.proofs.Found.{tells-same, unread_to_come, IsFollowed, Kind}
+use Rattle.plcx_command.proofs.Found.{tells-same, IsFollowed}
 use Rattle.plcx_command.proofs.Statuses.{status_for, done}
-use Rattle.plcx_command.proofs.Laws.{IsAnswered, answered, accepted-verdict, ByVerdict, passes, fails, by_verdict, done-passes}
+use Rattle.plcx_command.proofs.Laws.{IsAnswered, answered, ByVerdict, passes, fails, by_verdict, done-passes}
 
 -- a trace is answered to a run alone that leaves it
 traced-outcome : (r : Run) (x : Result (List ℕ) RunError) (text : List ℕ) → output text ≡ answer_to r x → x ≡ Ok text

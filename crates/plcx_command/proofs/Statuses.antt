@@ -1,8 +1,8 @@
 -- The status by which an answer is written.
-use Rattle.std.proofs.Common.{◌≡◌, ◌≢◌, ◌∙◌, ℕ, List, refl, sym, ap, subst, ◌⊎◌, inl, inr, Option, Some, None}
+use Rattle.std.proofs.Common.{◌≡◌, ◌∙◌, ℕ, List, refl, sym, ap, subst, inl, inr, Option, Some, None}
 use Rattle.plcx_io.specs.Counts.{Rose}
-use Rattle.plcx_command.specs.Answer.{Answer, output, refusal, memory_answer, memory_line}
-use Rattle.plcx_command.specs.Ends.{Change, Written, Gets, GetsFront, Unchanged}
+use Rattle.plcx_command.specs.Answer.{Answer, output, refusal, memory_answer}
+use Rattle.plcx_command.specs.Ends.{Change, Written, Gets, Unchanged}
 use Rattle.plcx_command.specs.Headline.{IsDefined}
 use Rattle.plcx_command.specs.Refused.{status_of}
 use Rattle.plcx_command.specs.declared.status.Refused.{Refused}
@@ -26,7 +26,6 @@ reason status.NoMemory = Some why'.NoMemory
 reason status.TextBroken = Some why'.TextBroken
 reason status.EventsBroken = Some why'.EventsBroken
 reason status.NoProgram = Some why'.NoProgram
-reason status.NotBuilt = Some why'.NotBuilt
 reason status.TasksBroken = Some why'.TasksBroken
 
 reason_back : (why : Refused) → reason (status_of why) ≡ Some why
@@ -37,7 +36,6 @@ reason_back why'.NoMemory = refl
 reason_back why'.TextBroken = refl
 reason_back why'.EventsBroken = refl
 reason_back why'.NoProgram = refl
-reason_back why'.NotBuilt = refl
 reason_back why'.TasksBroken = refl
 
 -- a status tells one reason

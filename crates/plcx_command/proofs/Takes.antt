@@ -1,8 +1,8 @@
 -- A file that was read and judged, and what follows on it.
-use Rattle.std.proofs.Common.{◌≡◌, ◌≢◌, ◌≤◌, ◌+◌, ◌-◌, ◌^◌, ℕ, List, [], min, length, refl, sym, ap, subst, arith, ◌⊎◌, inl, inr, Ok, Err}
+use Rattle.std.proofs.Common.{◌≡◌, ◌≢◌, ◌≤◌, ℕ, List, [], length, refl, sym, subst, arith, ◌⊎◌, inl, inr, Ok, Err}
 use Rattle.std.specs.Prelude.{Option, Result, MatchResult, IfOk, OnOk}
 use Rattle.std.proofs.Math.Path.{fun_ext}
-use Rattle.plcx_io.specs.Counts.{Rose, raised}
+use Rattle.plcx_io.specs.Counts.{Rose}
 use Rattle.plcx_io.specs.Told.{Tells}
 use Rattle.plcx_types.specs.Limits.{max_file_bytes}
 use Rattle.plcx_xml.specs.declared.tree.Node.{Node}
@@ -10,7 +10,6 @@ use Rattle.plcx_xml.specs.declared.tree.Node.TheOpen.{Node-F}
 use Rattle.plcx_xml.specs.declared.tree.Element.{Element}
 use Rattle.plcx_meaning.specs.Diagram.{Project}
 use Rattle.plcx_meaning.specs.Evaluate.{Heard}
-use Rattle.plcx_model.specs.declared.broken.Broken as model
 use Rattle.plcx_check.specs.declared.checked.Checked.{Checked}
 use Rattle.plcx_view.specs.Diagrams.{diagrams_of}
 use Rattle.plcx_words.specs.Command.{Run, TaskRun}
@@ -19,7 +18,7 @@ use Rattle.plcx_traced.specs.declared.error.RunError.TheVariants as error
 use Rattle.plcx_traced.proofs.Made.{not_wider}
 use Rattle.plcx_simulate.specs.Programs.{programs_of, diagrams_in}
 use Rattle.plcx_simulate.specs.Watching.{Watches, HearsFront}
-use Rattle.plcx_command.specs.Answer.{Answer, output, refusal, broken_answer, memory_answer}
+use Rattle.plcx_command.specs.Answer.{Answer, output, refusal, memory_answer}
 use Rattle.plcx_cycle.specs.Cycles as cycles
 use Rattle.plcx_cycle.specs.declared.error.CycleError.{CycleError}
 use Rattle.plcx_cycle.specs.declared.error.CycleError.TheVariants as cycle_error

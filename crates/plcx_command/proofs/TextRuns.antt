@@ -2,7 +2,7 @@
 use Rattle.std.proofs.Common.{◌≡◌, ◌≢◌, ◌∙◌, ℕ, List, refl, sym, ap, subst, inl, inr, Option, Some, None}
 use Rattle.std.specs.Prelude.{Result, Ok, Err}
 use Rattle.plcx_meaning.specs.Evaluate.{Heard}
-use Rattle.plcx_words.specs.Command.{Command, Run, run}
+use Rattle.plcx_words.specs.Command.{Command, Run, run, bench}
 use Rattle.plcx_state.specs.declared.layout.Leaf.{Leaf}
 use Rattle.plcx_st.specs.Meant.{meant}
 use Rattle.plcx_traced.specs.declared.error.RunError.TheVariants as error
@@ -22,9 +22,9 @@ use Rattle.plcx_command.specs.TextRun.{answer_to_text}
 use Rattle.plcx_command.specs.Verdict.{Verdict, FileVerdict}
 use Rattle.plcx_command.specs.declared.status.Status.{Status}
 use Rattle.plcx_command.specs.declared.status.Status.TheVariants as status
-use Rattle.plcx_command.proofs.Found.{Found, faulty, unbuilt, unread, breaks, traced, stopped, accepts}
+use Rattle.plcx_command.proofs.Found.{Found, faulty, measured, unread, breaks, traced, stopped, accepts}
 use Rattle.plcx_command.proofs.Statuses.{status_for, done}
-use Rattle.plcx_command.proofs.Laws.{IsAnswered, answered, built, no_project}
+use Rattle.plcx_command.proofs.Laws.{IsAnswered, answered, no_project}
 
 -- over files that are told a run of a text comes to one thing
 abbrev pub OneText : Type 0
@@ -100,7 +100,7 @@ module _ (one_verdict : (bytes : List ℕ) (v w : Verdict) → FileVerdict bytes
     where
       by : Found told rose command a → IsDefined (status_for a) → TextOutcome r a
       by (faulty n e) own = absurd (cc)
-      by (unbuilt t e) own = absurd (built command r is t)
+      by (measured n m text h e) own = let both : Some (run r) ≡ Some (bench n) = sym is ∙ m in absurd (cc)
       by (unread name p q e) own = absurd (no_project command r name is p)
       by (breaks b name p v e) own = absurd (no_project command r name is p)
       by (traced other n text h e) own = let same : other ≡ r = cc in subst (λ (z : Run). TextOutcome z a) same (outcome-of other a (Ok text) own h e)

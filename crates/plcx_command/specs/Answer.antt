@@ -12,7 +12,7 @@ use Rattle.plcx_plan.specs.declared.condition.TaskKind.TheVariants as task
 use Rattle.plcx_command.specs.declared.line.ProjectFile.{ProjectFile}
 use Rattle.plcx_command.specs.declared.line.ProjectFile.TheVariants.{First, New}
 use Rattle.plcx_command.specs.declared.status.Refused.{Refused}
-use Rattle.plcx_command.specs.declared.status.Refused.TheVariants.{Broken, Usage, ReadFault, NoMemory, NoProgram, NotBuilt}
+use Rattle.plcx_command.specs.declared.status.Refused.TheVariants.{Broken, Usage, ReadFault, NoMemory, NoProgram}
 
 pub data Answer : Type 0 where
   output : List ℕ → Answer
@@ -39,12 +39,6 @@ memory_line = line (codes "no memory")
 
 abbrev pub memory_answer : Answer
 memory_answer = refusal NoMemory memory_line
-
-abbrev pub not_built_line : List ℕ
-not_built_line = line (codes "not built")
-
-abbrev pub not_built_answer : Answer
-not_built_answer = refusal NotBuilt not_built_line
 
 abbrev pub read_line : List ℕ → List ℕ
 read_line name = codes "plcx: cannot read " ++ (name ++ 10 ∷ [])

@@ -1,18 +1,20 @@
 -- What a status says, one clause each.
-use Rattle.std.specs.Prelude.{◌≡◌, ◌↔◌, ◌⊎◌, ℕ, List, [], Bool, true, false, Option, Some, None, Ok, Err, ⊤}
+use Rattle.std.specs.Prelude.{◌≡◌, ◌↔◌, ◌⊎◌, ℕ, List, [], Option, Some, None, Ok, Err, ⊤}
 use Rattle.std.specs.Option.{option_and_then}
 use Rattle.plcx_io.specs.Counts.{Rose}
 use Rattle.plcx_meaning.specs.Evaluate.{Heard}
 use Rattle.plcx_traced.specs.declared.error.RunError.TheVariants as error
 use Rattle.plcx_text_run.specs.TextRuns as texts
 use Rattle.plcx_text_run.specs.declared.running.TextRunError.TheVariants as text_error
-use Rattle.plcx_command.specs.Answer.{ok_line, read_line, broken_line, usage_line, memory_line, not_built_line, write_line, Answer, refusal, output}
+use Rattle.plcx_command.specs.Answer.{ok_line, read_line, broken_line, usage_line, memory_line, write_line, Answer, refusal, output}
 use Rattle.plcx_words.specs.Command.{Command, Run, TaskRun, Migration, check, compile, simulate, run, bench, cycle, migrate, report, cover}
 use Rattle.plcx_model.specs.declared.broken.Broken as model
 use Rattle.plcx_migrate.specs.declared.migrating.Form.{Form}
 use Rattle.plcx_migrate.specs.declared.migrating.Form.TheVariants.{Lines, Report}
 use Rattle.plcx_command.specs.Causes.{Cause, of_run, of_text, of_cycle, of_migration, Stops, Comes, cause_refused, cause_line}
 use Rattle.plcx_cycle.specs.declared.error.CycleError.TheVariants as cycle_error
+use Rattle.plcx_bench.specs.Summary.{IsSummary}
+use Rattle.plcx_bench.specs.Watching.{HearsAll, HearsSome}
 use Rattle.plcx_command.specs.Compiled.{IsCompiled}
 use Rattle.plcx_command.specs.Cycled.{Cycles}
 use Rattle.plcx_command.specs.Hears.{Hears, IsHeard, IsHeardInPart}
@@ -27,7 +29,7 @@ use Rattle.plcx_command.specs.declared.line.ProjectFile.{ProjectFile}
 use Rattle.plcx_command.specs.declared.line.ProjectFile.TheVariants.{First, New}
 use Rattle.plcx_command.specs.declared.status.Refused.{Refused}
 use Rattle.plcx_command.specs.declared.status.Status.{Status}
-use Rattle.plcx_command.specs.declared.status.Status.TheVariants.{Done, Broken, Usage, ReadFault, WriteFault, NoMemory, TextBroken, EventsBroken, NoProgram, NotBuilt, TasksBroken}
+use Rattle.plcx_command.specs.declared.status.Status.TheVariants.{Done, Broken, Usage, ReadFault, WriteFault, NoMemory, TextBroken, EventsBroken, NoProgram, TasksBroken}
 
 -- a status that neither memory nor the outside made
 abbrev pub IsDefined : Status → Type 0
@@ -37,7 +39,6 @@ IsDefined Usage = ⊤
 IsDefined TextBroken = ⊤
 IsDefined EventsBroken = ⊤
 IsDefined NoProgram = ⊤
-IsDefined NotBuilt = ⊤
 IsDefined TasksBroken = ⊤
 IsDefined ReadFault = ⊥
 IsDefined WriteFault = ⊥
@@ -124,6 +125,12 @@ abbrev pub MigratesExactly : (List ℕ → Option (List ℕ)) → Option Command
 MigratesExactly told command status out err = (form : Form) (m : Migration) → command ≡ Some (action_of form m) → TellsAll told command → IsDefined status
     → ((status ≡ Done) ↔ ((text : List ℕ) × Migrates told Never form m (Ok text))) × (status ≡ Done → (text : List ℕ) × Migrates told Never form m (Ok text) × Gets out text × Unchanged err)
 
+-- A bench ends with the summary of its networks, unless memory is wanted or a write fails; the summary is then exactly what the output got, and it is that of the
+-- diagrams of its project and of their text.
+abbrev pub BenchesExactly : Option Command → Status → Change → Change → Type 0
+BenchesExactly command status out err = (n : ℕ) → command ≡ Some (bench n) → ((status ≡ Done) ⊎ ((status ≡ NoMemory) ⊎ (status ≡ WriteFault)))
+    × (status ≡ Done → (text : List ℕ) × IsSummary n text × Gets out text × Unchanged err)
+
 -- the words are no command
 abbrev pub RefusesUsage : Option Command → Status → Change → Change → Type 0
 RefusesUsage command status out err = (IsDefined status → ((status ≡ Usage) ↔ (command ≡ None))) × (status ≡ Usage → Gets err usage_line × Unchanged out)
@@ -153,23 +160,6 @@ abbrev pub RefusesFor : Refused → Type 0 → (List ℕ → Option (List ℕ)) 
 RefusesFor why Tells told command status out err =
     (Tells → IsDefined status → ((status ≡ status_of why) ↔ ((c : Cause) × (cause_refused c ≡ why) × Stops command c × Comes told Never c)))
     × (status ≡ status_of why → (c : Cause) × (cause_refused c ≡ why) × Stops command c × (Tells → Comes told Never c) × Gets err (cause_line c) × Unchanged out)
-
--- the action is not there by now
-abbrev pub is_to_come : Option Command → Bool
-is_to_come None = false
-is_to_come (Some (check name)) = false
-is_to_come (Some (compile name)) = false
-is_to_come (Some (simulate r)) = false
-is_to_come (Some (run r)) = false
-is_to_come (Some (bench n)) = true
-is_to_come (Some (cycle t)) = false
-is_to_come (Some (migrate m)) = false
-is_to_come (Some (report m)) = false
-is_to_come (Some (cover r)) = false
-
--- What is not built is an action.
-abbrev pub RefusesNotBuilt : Option Command → Status → Change → Change → Type 0
-RefusesNotBuilt command status out err = (IsDefined status → ((status ≡ NotBuilt) ↔ (is_to_come command ≡ true))) × (status ≡ NotBuilt → Gets err not_built_line × Unchanged out)
 
 -- the file that can't be read
 abbrev pub unread_file : Cause → Option (List ℕ)
@@ -233,18 +223,19 @@ IsRefusing ReadFault = ⊤
 IsRefusing TextBroken = ⊤
 IsRefusing EventsBroken = ⊤
 IsRefusing NoProgram = ⊤
-IsRefusing NotBuilt = ⊤
 IsRefusing TasksBroken = ⊤
 
--- A watch hears exactly what is heard over the run of a simulation that is done. It hears nothing of another action, and of what is refused; where memory
--- is wanted it may have heard a front of what is heard over the run.
+-- A watch hears exactly what is heard over the run of a simulation or a bench that is done. It hears nothing of another action, and of what is refused; where
+-- memory is wanted it may have heard a front of what is heard over the run.
 pub record WatchesExactly (told : List ℕ → Option (List ℕ)) (Became : List Heard → Type 0) (command : Option Command) (status : Status) : Type 0 where
   pub done : (r : Run) → command ≡ Some (simulate r) → status ≡ Done → (text : List ℕ) × IsHeard told r text Became
-  pub other : ((r : Run) → command ≡ Some (simulate r) → ⊥) → Became []
+  pub bench_done : (n : ℕ) → command ≡ Some (bench n) → status ≡ Done → HearsAll n Became
+  pub other : ((r : Run) → command ≡ Some (simulate r) → ⊥) → ((n : ℕ) → command ≡ Some (bench n) → ⊥) → Became []
   pub refused : IsRefusing status → Became []
   pub wanted : (r : Run) → command ≡ Some (simulate r) → status ≡ NoMemory → Became [] ⊎ IsHeardInPart told r Became
+  pub bench_wanted : (n : ℕ) → command ≡ Some (bench n) → status ≡ NoMemory → HearsSome n Became
 
--- what is asked for can be done: the file is accepted, a simulation or a run of a text comes to a trace, a run of tasks to its text, a run whose wires are
+-- what is asked for can be done, as a bench always: the file is accepted, a simulation or a run of a text comes to a trace, a run of tasks to its text, a run whose wires are
 -- counted to the counts, and a migration to what is written of it
 abbrev pub IsFine : (List ℕ → Option (List ℕ)) → Option Command → Type 0
 IsFine told None = ⊥
@@ -252,7 +243,7 @@ IsFine told (Some (check name)) = (bytes : List ℕ) × (told name ≡ Some byte
 IsFine told (Some (compile name)) = (bytes : List ℕ) × (told name ≡ Some bytes) × FileVerdict bytes verdict.Accepted
 IsFine told (Some (simulate r)) = (text : List ℕ) × Simulates told Never Trace r (Ok text)
 IsFine told (Some (run r)) = (text : List ℕ) × texts.ComesTo told Never r (Ok text)
-IsFine told (Some (bench n)) = ⊥
+IsFine told (Some (bench n)) = ⊤
 IsFine told (Some (cycle t)) = (text : List ℕ) × Cycles told Never t (Ok text)
 IsFine told (Some (migrate m)) = (text : List ℕ) × Migrates told Never Lines m (Ok text)
 IsFine told (Some (report m)) = (text : List ℕ) × Migrates told Never Report m (Ok text)

@@ -1,4 +1,5 @@
 pub mod Answer
+pub mod Benched
 pub mod Causes
 pub mod Compiled
 pub mod Cycled

@@ -15,7 +15,6 @@ number_of status.NoMemory = 5
 number_of status.TextBroken = 6
 number_of status.EventsBroken = 7
 number_of status.NoProgram = 8
-number_of status.NotBuilt = 9
 number_of status.TasksBroken = 10
 
 abbrev pub status_of : Refused → Status
@@ -26,5 +25,4 @@ status_of refused.NoMemory = status.NoMemory
 status_of refused.TextBroken = status.TextBroken
 status_of refused.EventsBroken = status.EventsBroken
 status_of refused.NoProgram = status.NoProgram
-status_of refused.NotBuilt = status.NotBuilt
 status_of refused.TasksBroken = status.TasksBroken

@@ -3,7 +3,8 @@ use Rattle.std.specs.Prelude.{◌≡◌, ◌≤◌, ◌<◌, ℕ, List, Option, 
 use Rattle.plcx_io.specs.Told.{Tells}
 use Rattle.plcx_words.specs.Command.{Command, Migration, check, compile, simulate, run, bench, cycle, migrate, report, cover}
 use Rattle.plcx_types.specs.Limits.{max_file_bytes}
-use Rattle.plcx_command.specs.Answer.{Answer, output, ok_answer, usage_answer, not_built_answer, read_answer, broken_answer}
+use Rattle.plcx_command.specs.Answer.{Answer, output, ok_answer, usage_answer, read_answer, broken_answer}
+use Rattle.plcx_command.specs.Benched.{AnswersBench}
 use Rattle.plcx_command.specs.Compiled.{IsCompiled}
 use Rattle.plcx_command.specs.Cycled.{AnswersCycle}
 use Rattle.plcx_command.specs.Migrated.{AnswersMigration}
@@ -42,7 +43,7 @@ pub record IsText (bytes : List ℕ) (a : Answer) : Type 0 where
 abbrev pub long_answer : ProjectFile → Answer
 long_answer file = broken_answer file (at_byte 7 max_file_bytes)
 
--- the project file of a command, which is read first and judged; none of a run of a text, and of an action that is not built
+-- the project file of a command, which is read first and judged; none of a run of a text and of a bench, which read none
 abbrev pub file_of : Command → Option (List ℕ)
 file_of (check name) = Some name
 file_of (compile name) = Some name
@@ -74,13 +75,13 @@ SaysOver told rose name command a = AfterRead (told name) (rose name) name (long
 abbrev pub SaysMigration : (List ℕ → Option (List ℕ)) → (List ℕ → Type 0) → Form → Migration → Answer → Type 0
 SaysMigration told rose form m a = AfterRead (told m.old) (rose m.old) m.old (long_answer First) (λ bytes. Judged First bytes (AnswersMigration told rose form m bytes)) a
 
--- What a command answers, where the desk tells these files and these names' counts rose. A run of a text reads no project file.
+-- What a command answers, where the desk tells these files and these names' counts rose. A run of a text reads no project file, and a bench none at all.
 abbrev pub SaysTo : (List ℕ → Option (List ℕ)) → (List ℕ → Type 0) → Command → Answer → Type 0
 SaysTo told rose (check name) a = SaysOver told rose name (check name) a
 SaysTo told rose (compile name) a = SaysOver told rose name (compile name) a
 SaysTo told rose (simulate r) a = SaysOver told rose r.file (simulate r) a
 SaysTo told rose (run r) a = AnswersText told rose r a
-SaysTo told rose (bench n) a = a ≡ not_built_answer
+SaysTo told rose (bench n) a = AnswersBench n a
 SaysTo told rose (cycle t) a = SaysOver told rose t.file (cycle t) a
 SaysTo told rose (migrate m) a = SaysOver told rose m.old (migrate m) a
 SaysTo told rose (report m) a = SaysOver told rose m.old (report m) a

@@ -1,9 +1,10 @@
 //! What is to be written, before anything is.
-ghost use Rattle.std.specs.Prelude.{◌≡◌, Some, None, IfOk, MatchResult};
+ghost use Rattle.std.specs.Prelude.{◌≡◌, ℕ, Some, None, IfOk, MatchResult};
 ghost use Rattle.std.specs.List.{fold};
 ghost use Rattle.plcx_io.specs.Counts.{Rose};
-ghost use Rattle.plcx_words.specs.Command.{command_of, check, compile, simulate};
+ghost use Rattle.plcx_words.specs.Command.{command_of, bench, check, compile, simulate};
 ghost use Rattle.plcx_words.specs.Says.{said_by, said_by_run};
+ghost use Rattle.plcx_bench_project.specs.Bench.{IsMeasured};
 ghost use Rattle.plcx_command.specs.Answer.{memory_answer};
 ghost use Rattle.plcx_command.specs.Hears.{Hears, HearsRun};
 ghost use Rattle.plcx_command.specs.Says.{Says, SaysTo};
@@ -11,12 +12,13 @@ ghost use Rattle.plcx_command.specs.Simulated.{AnswersRun, Trace};
 ghost use Rattle.plcx_command.specs.ReplyOf.{answer_of};
 ghost use Rattle.plcx_command.specs.Taken.{IsAccepted};
 
+use crate::benching::bench_reply;
 use crate::covering::cover_file;
 use crate::cycling::cycle_file;
 use crate::judging::text_of;
 use crate::line::ProjectFile;
 use crate::migrating::migrate_file;
-use crate::replies::{accepted, no_trace, not_built, usage};
+use crate::replies::{accepted, no_trace, usage};
 use crate::reply::Reply;
 use crate::taking::{Taken, take_file};
 use crate::texts::run_text;
@@ -97,6 +99,7 @@ fn obey<D: Desk, W: Watch>(
     desk: &mut D,
     watch: &mut W,
 ) -> Result<Reply, NoMemory>
+    requires { (n : ℕ) → said_by command ≡ bench n → IsMeasured n }
     ensures says { IfOk result (λ reply. SaysTo (D.file desk.old)
         (λ name. Rose (D.faults desk.old name) (D.faults desk.new name)) (said_by command.entry) (answer_of reply)) }
     ensures heard { MatchResult result
@@ -112,7 +115,7 @@ fn obey<D: Desk, W: Watch>(
         Command::Cover(run) => cover_file(alloc, desk, &run),
         Command::Run(run) => run_text(alloc, desk, &run),
         Command::Cycle(run) => cycle_file(alloc, desk, &run),
-        Command::Bench(_) => not_built(alloc),
+        Command::Bench(n) => bench_reply(alloc, n, watch),
     }
 }
 

@@ -4,6 +4,7 @@
 //! when and what each sink got, and that the text of a diagram, read back, does what the diagram does.
 #![tactic(auto)]
 
+mod benching;
 mod covering;
 mod cycling;
 mod deciding;

@@ -3,7 +3,7 @@ ghost use Rattle.std.specs.Prelude.{◌≡◌, ◌≢◌, IfOk, OnOk};
 ghost use Rattle.std.specs.Option.{option_map};
 ghost use Rattle.plcx_words.specs.Says.{said_by_run, said_by_task_run};
 ghost use Rattle.plcx_traced.specs.declared.error.RunError.TheVariants as run_error;
-ghost use Rattle.plcx_command.specs.Answer.{refusal, ok_answer, usage_answer, not_built_answer, read_answer, broken_answer, program_answer};
+ghost use Rattle.plcx_command.specs.Answer.{refusal, ok_answer, usage_answer, read_answer, broken_answer, program_answer};
 ghost use Rattle.plcx_text_run.specs.declared.running.TextRunError.TheVariants as text_error;
 ghost use Rattle.plcx_command.specs.Answer.{retained_line, row_line, tasks_line, text_line};
 ghost use Rattle.plcx_cycle.specs.declared.error.CycleError.TheVariants as cycle_error;
@@ -34,13 +34,6 @@ pub fn usage(alloc: Global) -> Result<Reply, NoMemory>
     let line =
         b"plcx: usage: plcx ACTION FILE [EVENTS] [--program NAME] [--turns N] [--retain FILE]\n";
     Ok(Reply::Refusal(Refused::Usage, line.to_vec(alloc)?))
-}
-
-/// What an action answers that is not built.
-pub fn not_built(alloc: Global) -> Result<Reply, NoMemory>
-    ensures { IfOk result (λ reply. answer_of reply ≡ not_built_answer) }
-{
-    Ok(Reply::Refusal(Refused::NotBuilt, b"plcx: not built\n".to_vec(alloc)?))
 }
 
 /// What a file answers that is accepted, and only judged.

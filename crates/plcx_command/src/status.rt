@@ -13,7 +13,6 @@ pub enum Status {
     TextBroken,
     EventsBroken,
     NoProgram,
-    NotBuilt,
     TasksBroken,
 }
 
@@ -32,7 +31,6 @@ impl Status {
             Status::TextBroken => 6,
             Status::EventsBroken => 7,
             Status::NoProgram => 8,
-            Status::NotBuilt => 9,
             Status::TasksBroken => 10,
         }
     }
@@ -50,7 +48,6 @@ pub enum Refused {
     TextBroken,
     EventsBroken,
     NoProgram,
-    NotBuilt,
     TasksBroken,
 }
 
@@ -67,7 +64,6 @@ impl Refused {
             Refused::TextBroken => Status::TextBroken,
             Refused::EventsBroken => Status::EventsBroken,
             Refused::NoProgram => Status::NoProgram,
-            Refused::NotBuilt => Status::NotBuilt,
             Refused::TasksBroken => Status::TasksBroken,
         }
     }

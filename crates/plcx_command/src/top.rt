@@ -4,8 +4,8 @@ ghost use Rattle.std.specs.List.{fold};
 ghost use Rattle.plcx_io.specs.Counts.{Rose};
 ghost use Rattle.plcx_words.specs.Command.{command_of};
 ghost use Rattle.plcx_command.specs.Ends.{Ends, change};
-ghost use Rattle.plcx_command.specs.Headline.{ChecksExactly, CompilesExactly, CoversExactly, CyclesExactly, MigratesExactly, RunsExactly, SimulatesExactly, WatchesExactly, TellsSources, TellsAll};
-ghost use Rattle.plcx_command.specs.Headline.{RefusesUsage, RefusesBroken, RefusesFor, RefusesNotBuilt, BlamesReads, BlamesWrites, TellsMemory, IsComplete};
+ghost use Rattle.plcx_command.specs.Headline.{BenchesExactly, ChecksExactly, CompilesExactly, CoversExactly, CyclesExactly, MigratesExactly, RunsExactly, SimulatesExactly, WatchesExactly, TellsSources, TellsAll};
+ghost use Rattle.plcx_command.specs.Headline.{RefusesUsage, RefusesBroken, RefusesFor, BlamesReads, BlamesWrites, TellsMemory, IsComplete};
 ghost use Rattle.plcx_command.specs.declared.status.Refused.TheVariants.{TextBroken, NoProgram, EventsBroken, TasksBroken};
 
 use crate::deciding::decide;
@@ -83,6 +83,10 @@ pub fn plcx<D: Desk, O: Sink, E: Sink, W: Watch>(
         (change (O.written out.old) (O.written out.new) (O.faults out.old) (O.faults out.new))
         (change (E.written err.old) (E.written err.new) (E.faults err.old) (E.faults err.new)) }
 
+    ensures benches { BenchesExactly (command_of words.now) result
+        (change (O.written out.old) (O.written out.new) (O.faults out.old) (O.faults out.new))
+        (change (E.written err.old) (E.written err.new) (E.faults err.old) (E.faults err.new)) }
+
     ensures migrates { MigratesExactly (D.file desk.old) (command_of words.now) result
         (change (O.written out.old) (O.written out.new) (O.faults out.old) (O.faults out.new))
         (change (E.written err.old) (E.written err.new) (E.faults err.old) (E.faults err.new)) }
@@ -117,10 +121,6 @@ pub fn plcx<D: Desk, O: Sink, E: Sink, W: Watch>(
         (change (E.written err.old) (E.written err.new) (E.faults err.old) (E.faults err.new)) }
 
     ensures tasks_broken { RefusesFor TasksBroken (TellsSources (D.file desk.old) (command_of words.now)) (D.file desk.old) (command_of words.now) result
-        (change (O.written out.old) (O.written out.new) (O.faults out.old) (O.faults out.new))
-        (change (E.written err.old) (E.written err.new) (E.faults err.old) (E.faults err.new)) }
-
-    ensures not_built { RefusesNotBuilt (command_of words.now) result
         (change (O.written out.old) (O.written out.new) (O.faults out.old) (O.faults out.new))
         (change (E.written err.old) (E.written err.new) (E.faults err.old) (E.faults err.new)) }
 

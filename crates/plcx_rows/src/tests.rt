@@ -10,8 +10,6 @@ use std::test::Fail;
 const USAGE: &str =
     "plcx: usage: plcx ACTION FILE [EVENTS] [--program NAME] [--turns N] [--retain FILE]\n";
 
-const NOT_BUILT: &str = "plcx: not built\n";
-
 /// What a call left behind.
 #[derive(Drop)]
 pub struct Left {
@@ -97,7 +95,7 @@ fn writes_the_text_of_a_file(rt: HostRuntime) -> Result<(), Fail> {
 }
 
 #[test]
-fn refuses_what_is_no_command_or_not_built(rt: HostRuntime) -> Result<(), Fail> {
+fn refuses_what_is_no_command(rt: HostRuntime) -> Result<(), Fail> {
     let alloc = rt.alloc();
     let faulty: [&[&str]; 4] = [
         &["compile"],
@@ -109,8 +107,6 @@ fn refuses_what_is_no_command_or_not_built(rt: HostRuntime) -> Result<(), Fail> 
         let left = run_words(alloc, words, ONE_WIRE, NONE)?;
         assert!(rt; left.is(Status::Usage, "", USAGE));
     }
-    let bench = run_words(alloc, &["bench", "3"], ONE_WIRE, NONE)?;
-    assert!(rt; bench.is(Status::NotBuilt, "", NOT_BUILT));
     Ok(())
 }
 

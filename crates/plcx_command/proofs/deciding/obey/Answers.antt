@@ -1,4 +1,5 @@
-use Rattle.std.proofs.Common.{rules}
+use Rattle.std.proofs.Common.{ap}
+use Rattle.plcx_words.specs.Says.{said_by}
 use Rattle.plcx_command.proofs.deciding.obey.Goals as goal
 
 pub returns-in-Check-clause-says : goal.returns-in-Check-clause-says
@@ -24,3 +25,6 @@ returns-in-Report-clause-says g c = rw c.in-Report.is c.migrate_file-in-Report.e
 
 pub returns-in-Cover-clause-says : goal.returns-in-Cover-clause-says
 returns-in-Cover-clause-says g c = rw c.in-Cover.is c.cover_file.ensures
+
+pub bench_reply-requires : goal.bench_reply-requires
+bench_reply-requires g c = c.requires c.in-Bench.n (ap said_by c.in-Bench.is)

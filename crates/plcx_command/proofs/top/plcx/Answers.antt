@@ -1,9 +1,10 @@
 use Rattle.plcx_command.specs.Simulated.{Trace, Coverage}
 use Rattle.plcx_command.specs.declared.status.Refused.TheVariants.{EventsBroken, NoProgram, TasksBroken, TextBroken}
+use Rattle.plcx_command.proofs.Benches.{benches_exactly}
 use Rattle.plcx_command.proofs.Causes.{all_project, files_settle, is_complete, program_settles, refuses_broken, refuses_for, tasks_settle, text_settles}
 use Rattle.plcx_command.proofs.Cycles.{OneTree, cycles_exactly}
 use Rattle.plcx_command.proofs.Forms.{one_run, missing_run}
-use Rattle.plcx_command.proofs.Laws.{blames_reads, blames_writes, checks_exactly, compiles_exactly, refuses_not_built, refuses_usage, tells_memory, watches_exactly}
+use Rattle.plcx_command.proofs.Laws.{blames_reads, blames_writes, checks_exactly, compiles_exactly, refuses_usage, tells_memory, watches_exactly}
 use Rattle.plcx_command.proofs.Migrations.{migrates_exactly}
 use Rattle.plcx_command.proofs.Simulations.{exactly}
 use Rattle.plcx_command.proofs.TextRuns.{runs_exactly}
@@ -28,6 +29,7 @@ returns g c =
       covers = exactly one list outcome missing _ _ _ Coverage _ _ _ _ ends;
       runs = runs_exactly one _ _ _ texts.one _ _ _ _ ends;
       cycles = λ t. cycles_exactly one _ _ _ t tree list cycle _ _ _ _ ends;
+      benches = benches_exactly _ _ _ _ _ _ _ ends;
       migrates = migrates_exactly one list _ _ _ _ _ _ _ ends;
       complete = is_complete one list outcome missing texts.one texts.broken texts.missing tree cycle none _ _ _ _ _ _ _ ends;
       watches = watches_exactly one _ _ _ _ _ _ _ ends;
@@ -35,14 +37,13 @@ returns g c =
       untouched = c.run.ensures.untouched;
       broken = refuses_broken one list outcome missing texts.one texts.broken texts.missing tree cycle none _ _ _ _ _ _ _ ends;
       text_broken =
-          refuses_for one list outcome missing texts.one texts.broken texts.missing tree cycle none _ _ _ TextBroken _ tt (λ x. cc) (λ x. cc) (λ x. cc) _ (λ k. k) (text_settles one list outcome missing texts.one texts.broken texts.missing tree cycle none _ _ _ _) _ _ _ ends;
+          refuses_for one list outcome missing texts.one texts.broken texts.missing tree cycle none _ _ _ TextBroken _ tt (λ x. cc) (λ x. cc) _ (λ k. k) (text_settles one list outcome missing texts.one texts.broken texts.missing tree cycle none _ _ _ _) _ _ _ ends;
       tasks_broken =
-          refuses_for one list outcome missing texts.one texts.broken texts.missing tree cycle none _ _ _ TasksBroken _ tt (λ x. cc) (λ x. cc) (λ x. cc) _ (λ k. k) (tasks_settle one list outcome missing texts.one texts.broken texts.missing tree cycle none _ _ _ _) _ _ _ ends;
+          refuses_for one list outcome missing texts.one texts.broken texts.missing tree cycle none _ _ _ TasksBroken _ tt (λ x. cc) (λ x. cc) _ (λ k. k) (tasks_settle one list outcome missing texts.one texts.broken texts.missing tree cycle none _ _ _ _) _ _ _ ends;
       no_program =
-          refuses_for one list outcome missing texts.one texts.broken texts.missing tree cycle none _ _ _ NoProgram _ tt (λ x. cc) (λ x. cc) (λ x. cc) _ (λ k. k) (program_settles one list outcome missing texts.one texts.broken texts.missing tree cycle none _ _ _ _) _ _ _ ends;
+          refuses_for one list outcome missing texts.one texts.broken texts.missing tree cycle none _ _ _ NoProgram _ tt (λ x. cc) (λ x. cc) _ (λ k. k) (program_settles one list outcome missing texts.one texts.broken texts.missing tree cycle none _ _ _ _) _ _ _ ends;
       events_broken =
-          refuses_for one list outcome missing texts.one texts.broken texts.missing tree cycle none _ _ _ EventsBroken _ tt (λ x. cc) (λ x. cc) (λ x. cc) _ (all_project _ _) (files_settle one list outcome missing texts.one texts.broken texts.missing tree cycle none _ _ _ _) _ _ _ ends;
-      not_built = refuses_not_built one _ _ _ _ _ _ _ ends;
+          refuses_for one list outcome missing texts.one texts.broken texts.missing tree cycle none _ _ _ EventsBroken _ tt (λ x. cc) (λ x. cc) _ (all_project _ _) (files_settle one list outcome missing texts.one texts.broken texts.missing tree cycle none _ _ _ _) _ _ _ ends;
       read_fault = blames_reads one _ _ _ _ _ _ _ ends;
       write_fault = blames_writes one _ _ _ _ _ _ _ ends;
       no_memory = tells_memory one _ _ _ _ _ _ _ ends;

@@ -1,0 +1,4 @@
+pub mod Summary
+pub mod Watching
+-- serves proofs alone
+pub mod Sides
