@@ -25,16 +25,3 @@ fn counts_what_a_run_evaluates(rt: HostRuntime) -> Result<(), Fail> {
     Ok(())
 }
 
-#[test]
-fn refuses_what_a_simulation_refuses(rt: HostRuntime) -> Result<(), Fail> {
-    let alloc = rt.alloc();
-    let other = ["cover", "main.xml", "events.csv", "--program", "Nope"];
-    let files = [("main.xml", ONE_WIRE), ("events.csv", EVENTS)];
-    let missing = run_over(alloc, &other, &files, NONE, &mut Silent)?;
-    assert!(rt; missing.is(Status::NoProgram, "", "plcx: no program Nope\n"));
-
-    let words = ["cover", "main.xml", "events.csv"];
-    let broken = run_over(alloc, &words, &files, NONE, &mut Silent)?;
-    assert!(rt; broken.is(Status::EventsBroken, "", "plcx: events row 1\n"));
-    Ok(())
-}

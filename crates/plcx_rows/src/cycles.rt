@@ -47,39 +47,3 @@ fn runs_the_tasks_of_a_resource(rt: HostRuntime) -> Result<(), Fail> {
     Ok(())
 }
 
-#[test]
-fn refuses_tasks_before_ticks(rt: HostRuntime) -> Result<(), Fail> {
-    let alloc = rt.alloc();
-    let words = ["cycle", "main.xml", "ticks.csv"];
-    let zero = format!(in alloc; "{FRONT}T#0ms{BACK}")?;
-    let right = format!(in alloc; "{FRONT}T#10ms{BACK}")?;
-    let lines = [
-        ("<a", Status::Broken, "plcx: rule 2 at byte 0\n"),
-        (
-            ONE_WIRE,
-            Status::TasksBroken,
-            "plcx: tasks count at byte 0\n",
-        ),
-        (
-            zero.as_str(),
-            Status::TasksBroken,
-            "plcx: tasks task at byte 1071\n",
-        ),
-        (
-            right.as_str(),
-            Status::ReadFault,
-            "plcx: cannot read ticks.csv\n",
-        ),
-    ];
-    for (file, status, line) in lines {
-        let left = run_over(alloc, &words, &[("main.xml", file)], NONE, &mut Silent)?;
-        assert!(rt; left.is(status, "", line));
-    }
-    let files = [
-        ("main.xml", right.as_str()),
-        ("ticks.csv", "event,time\ntick,5\ntick,4\n"),
-    ];
-    let back = run_over(alloc, &words, &files, NONE, &mut Silent)?;
-    assert!(rt; back.is(Status::EventsBroken, "", "plcx: events row 3\n"));
-    Ok(())
-}

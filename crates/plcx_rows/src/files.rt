@@ -15,35 +15,6 @@ pub const ONE_WIRE_TEXT: &str =
     "PROGRAM Main\nVAR\n  A : BOOL;\n  B : BOOL;\nEND_VAR\nVAR_TEMP\n  PLCX_W1 : BOOL;\nE\
     ND_VAR\n  PLCX_W1 := A;\n  B := PLCX_W1;\nEND_PROGRAM\n";
 
-/// A to B stands above B to C, and behind it in the file.
-pub const TWO_NETWORKS: &str =
-    "<project xmlns=\"http://www.plcopen.org/xml/tc6_0201\"><types><pous><pou name=\"Main\
-    \" pouType=\"program\"><interface><localVars><variable name=\"A\"><type><BOOL/></typ\
-    e></variable><variable name=\"B\"><type><BOOL/></type></variable><variable name=\"C\
-    \"><type><BOOL/></type></variable></localVars></interface><body><FBD><inVariable loc\
-    alId=\"1\"><position x=\"0\" y=\"10\"/><connectionPointOut/><expression>B</expressio\
-    n></inVariable><outVariable localId=\"2\"><position x=\"0\" y=\"10\"/><connectionPoi\
-    ntIn><connection refLocalId=\"1\"/></connectionPointIn><expression>C</expression></o\
-    utVariable><inVariable localId=\"3\"><position x=\"0\" y=\"0\"/><connectionPointOut/\
-    ><expression>A</expression></inVariable><outVariable localId=\"4\"><position x=\"0\
-    \" y=\"0\"/><connectionPointIn><connection refLocalId=\"3\"/></connectionPointIn><ex\
-    pression>B</expression></outVariable></FBD></body></pou></pous></types></project>";
-
-/// Its text.
-pub const TWO_NETWORKS_TEXT: &str =
-    "PROGRAM Main\nVAR\n  A : BOOL;\n  B : BOOL;\n  C : BOOL;\nEND_VAR\nVAR_TEMP\n  PLCX_\
-    W1 : BOOL;\n  PLCX_W3 : BOOL;\nEND_VAR\n  PLCX_W3 := A;\n  B := PLCX_W3;\n  PLCX_W1 \
-    := B;\n  C := PLCX_W1;\nEND_PROGRAM\n";
-
-/// No variables and no elements.
-pub const EMPTY_BODY: &str =
-    "<project xmlns=\"http://www.plcopen.org/xml/tc6_0201\"><types><pous><pou name=\"Main\
-    \" pouType=\"program\"><interface><localVars></localVars></interface><body><FBD></FB\
-    D></body></pou></pous></types></project>";
-
-/// Its text.
-pub const EMPTY_BODY_TEXT: &str = "PROGRAM Main\nEND_PROGRAM\n";
-
 /// One wire from A to B, both retained.
 pub const KEPT_WIRE: &str =
     "<project xmlns=\"http://www.plcopen.org/xml/tc6_0201\"><types><pous><pou name=\"Main\
@@ -54,33 +25,6 @@ pub const KEPT_WIRE: &str =
     2\"><position x=\"0\" y=\"0\"/><connectionPointIn><connection refLocalId=\"1\"/></co\
     nnectionPointIn><expression>B</expression></outVariable></FBD></body></pou></pous></\
     types></project>";
-
-/// Two programs of one wire each.
-pub const TWO_PROGRAMS: &str =
-    "<project xmlns=\"http://www.plcopen.org/xml/tc6_0201\"><types><pous><pou name=\"Main\
-    \" pouType=\"program\"><interface><localVars><variable name=\"A\"><type><BOOL/></typ\
-    e></variable><variable name=\"B\"><type><BOOL/></type></variable></localVars></inter\
-    face><body><FBD><inVariable localId=\"1\"><position x=\"0\" y=\"0\"/><connectionPoin\
-    tOut/><expression>A</expression></inVariable><outVariable localId=\"2\"><position x=\
-    \"0\" y=\"0\"/><connectionPointIn><connection refLocalId=\"1\"/></connectionPointIn>\
-    <expression>B</expression></outVariable></FBD></body></pou><pou name=\"Other\" pouTy\
-    pe=\"program\"><interface><localVars><variable name=\"A\"><type><BOOL/></type></vari\
-    able><variable name=\"B\"><type><BOOL/></type></variable></localVars></interface><bo\
-    dy><FBD><inVariable localId=\"1\"><position x=\"0\" y=\"0\"/><connectionPointOut/><e\
-    xpression>A</expression></inVariable><outVariable localId=\"2\"><position x=\"0\" y=\
-    \"0\"/><connectionPointIn><connection refLocalId=\"1\"/></connectionPointIn><express\
-    ion>B</expression></outVariable></FBD></body></pou></pous></types></project>";
-
-/// No program.
-pub const NO_PROGRAM: &str =
-    "<project xmlns=\"http://www.plcopen.org/xml/tc6_0201\"><types><pous><pou name=\"Main\
-    \" pouType=\"functionBlock\"><interface><localVars><variable name=\"A\"><type><BOOL/\
-    ></type></variable><variable name=\"B\"><type><BOOL/></type></variable></localVars><\
-    /interface><body><FBD><inVariable localId=\"1\"><position x=\"0\" y=\"0\"/><connecti\
-    onPointOut/><expression>A</expression></inVariable><outVariable localId=\"2\"><posit\
-    ion x=\"0\" y=\"0\"/><connectionPointIn><connection refLocalId=\"1\"/></connectionPo\
-    intIn><expression>B</expression></outVariable></FBD></body></pou></pous></types></pr\
-    oject>";
 
 /// A motor that holds itself until it is stopped.
 pub const MOTOR: &str =

@@ -82,58 +82,6 @@ pub fn run_words(
 }
 
 #[test]
-fn writes_the_text_of_a_file(rt: HostRuntime) -> Result<(), Fail> {
-    let alloc = rt.alloc();
-    let words = ["compile", "main.xml"];
-    for (file, text) in [
-        (ONE_WIRE, ONE_WIRE_TEXT),
-        (TWO_NETWORKS, TWO_NETWORKS_TEXT),
-        (EMPTY_BODY, EMPTY_BODY_TEXT),
-    ] {
-        let left = run_words(alloc, &words, file, NONE)?;
-        assert!(rt; left.is(Status::Done, text, ""));
-    }
-    Ok(())
-}
-
-#[test]
-fn refuses_what_is_no_command_or_not_built(rt: HostRuntime) -> Result<(), Fail> {
-    let alloc = rt.alloc();
-    let faulty: [&[&str]; 4] = [
-        &["compile"],
-        &["compile", "main.xml", "b.csv"],
-        &["check", "main.xml", "--turns", "5"],
-        &["bench", "0"],
-    ];
-    for words in faulty {
-        let left = run_words(alloc, words, ONE_WIRE, NONE)?;
-        assert!(rt; left.is(Status::Usage, "", USAGE));
-    }
-    let bench = run_words(alloc, &["bench", "3"], ONE_WIRE, NONE)?;
-    assert!(rt; bench.is(Status::NotBuilt, "", NOT_BUILT));
-    Ok(())
-}
-
-#[test]
-fn judges_a_file(rt: HostRuntime) -> Result<(), Fail> {
-    let alloc = rt.alloc();
-    let one = run_words(alloc, &["check", "main.xml"], ONE_WIRE, NONE)?;
-    assert!(rt; one.is(Status::Done, "ok\n", ""));
-    for (file, line) in [
-        ("", "plcx: rule 3 at byte 0\n"),
-        ("<a", "plcx: rule 2 at byte 0\n"),
-        ("<a/>", "plcx: rule 4 at byte 0\n"),
-        ("<project/>", "plcx: rule 4 at byte 0\n"),
-    ] {
-        for action in ["check", "compile"] {
-            let left = run_words(alloc, &[action, "main.xml"], file, NONE)?;
-            assert!(rt; left.is(Status::Broken, "", line), "at {file}");
-        }
-    }
-    Ok(())
-}
-
-#[test]
 fn blames_the_desk_where_a_read_fails(rt: HostRuntime) -> Result<(), Fail> {
     let alloc = rt.alloc();
     let words = ["compile", "main.xml"];

@@ -34,27 +34,3 @@ fn runs_a_text(rt: HostRuntime) -> Result<(), Fail> {
     Ok(())
 }
 
-#[test]
-fn refuses_what_comes_first_of_a_text(rt: HostRuntime) -> Result<(), Fail> {
-    let alloc = rt.alloc();
-    let words = ["run", "main.st", "events.csv"];
-    let named = ["run", "main.st", "no.csv", "--program", "Nope"];
-    let lines = [
-        (
-            NO_VALUE,
-            Status::TextBroken,
-            "plcx: text syntax at byte 44\n",
-        ),
-        (NO_NAME, Status::TextBroken, "plcx: text name at byte 39\n"),
-        (MOTOR, Status::NoProgram, "plcx: no program Nope\n"),
-    ];
-    for (text, status, line) in lines {
-        let left = run_over(alloc, &named, &[("main.st", text)], NONE, &mut Silent)?;
-        assert!(rt; left.is(status, "", line));
-    }
-    let absent = run_over(alloc, &words, &[("main.st", MOTOR)], NONE, &mut Silent)?;
-    assert!(rt; absent.is(Status::ReadFault, "", "plcx: cannot read events.csv\n"));
-    let unread = run_over(alloc, &words, &[("events.csv", EVENTS)], NONE, &mut Silent)?;
-    assert!(rt; unread.is(Status::ReadFault, "", "plcx: cannot read main.st\n"));
-    Ok(())
-}
