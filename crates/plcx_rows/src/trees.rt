@@ -1,21 +1,8 @@
-//! What `read_tree` answers to whole files: the tree's texts and spans, and the first fault with its place.
-use crate::files::ONE_WIRE;
+//! What `read_tree` makes of whole files: texts, attributes and their spans.
 use plcx_types::Span;
-use plcx_xml::{Element, Node, XmlError, read_tree};
+use plcx_xml::{Element, Node, read_tree};
 use std::alloc::Global;
 use std::test::Fail;
-
-/// The rule and the place of the file's first fault, or rule 0.
-fn fault_of(alloc: Global, file: &[u8]) -> (u8, u64) {
-    match read_tree(alloc, file) {
-        Ok(_) => (0, 0),
-        Err(XmlError::NotUtf8 { at }) => (1, at),
-        Err(XmlError::Token { at }) => (2, at),
-        Err(XmlError::Nesting { at }) => (3, at),
-        Err(XmlError::TooDeep { at }) => (7, at),
-        Err(XmlError::NoMemory) => (255, 0),
-    }
-}
 
 fn root_of(alloc: Global, file: &[u8]) -> Result<Element<'_>, Fail> {
     match read_tree(alloc, file) {
@@ -23,18 +10,6 @@ fn root_of(alloc: Global, file: &[u8]) -> Result<Element<'_>, Fail> {
         Ok(Node::Text(_text)) => Err(Fail::from("the file has no element")),
         Err(_fault) => Err(Fail::from("the file has no tree")),
     }
-}
-
-/// So many times these bytes, and so many times those.
-fn times(alloc: Global, count: usize, front: &str, back: &str) -> Result<Vec<u8>, Fail> {
-    let mut file = Vec::new(alloc);
-    for _ in 0..count {
-        file.extend_from_slice(front.as_bytes())?;
-    }
-    for _ in 0..count {
-        file.extend_from_slice(back.as_bytes())?;
-    }
-    Ok(file)
 }
 
 #[test]
