@@ -6,7 +6,7 @@ ghost use Rattle.plcx_bench.specs.Summary.{IsSummary};
 ghost use Rattle.plcx_bench.specs.Watching.{HearsAll, HearsSome};
 
 use crate::summary::summary_of;
-use plcx_bench_read::bench_project;
+use plcx_bench_file::bench_project;
 use plcx_bench_rules::checked_bench;
 use plcx_steps::Watch;
 use plcx_types::NoMemory;

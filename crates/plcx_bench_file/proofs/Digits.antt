@@ -11,7 +11,7 @@ use Rattle.plcx_xml.proofs.Runs.{prefix_len-again, both-true}
 use Rattle.plcx_table.specs.Number.{is_digit, digits_behind, digits_value, number_of, coordinate_of, is_decimal, magnitude_of, begins_with}
 
 -- what holds of each digit
-of_ten : (P : ℕ → Type 0) → P 0 → P 1 → P 2 → P 3 → P 4 → P 5 → P 6 → P 7 → P 8 → P 9 → (k : ℕ) → k < 10 → P k
+pub of_ten : (P : ℕ → Type 0) → P 0 → P 1 → P 2 → P 3 → P 4 → P 5 → P 6 → P 7 → P 8 → P 9 → (k : ℕ) → k < 10 → P k
 of_ten P p0 p1 p2 p3 p4 p5 p6 p7 p8 p9 zero h = p0
 of_ten P p0 p1 p2 p3 p4 p5 p6 p7 p8 p9 (suc zero) h = p1
 of_ten P p0 p1 p2 p3 p4 p5 p6 p7 p8 p9 (suc (suc zero)) h = p2
@@ -57,7 +57,7 @@ value-decimal = decimal_by_steps (λ n ds. digits_value ds ≡ n)
     (λ n lt. behind-one 0 (48 + n) ∙ omega arith)
     (λ n ds le more. behind-append ds ((48 + n % 10) ∷ []) 0 ∙ (ap (λ (m : ℕ). digits_behind m ((48 + n % 10) ∷ [])) more ∙ (behind-one (n / 10) (48 + n % 10) ∙ omega arith)))
 
-digits-digital : Digital is_digit
+pub digits-digital : Digital is_digit
 digits-digital = digital is_digit refl refl refl refl refl refl refl refl refl refl
 
 -- the number that is written
@@ -99,3 +99,13 @@ coordinate-decimal n h =
       magnitude (decimal n) (decimal_nonempty n (omega arith)) (length-decimal-le 12 n (omega arith) h (omega arith)) digits,
       value-decimal n (omega arith),
     ) refl
+
+-- the first digit, and what follows it
+pub front-digit : (ds : List ℕ) → 0 < length ds → list_all is_digit ds ≡ true → (k : ℕ) × (rest : List ℕ) × (ds ≡ (48 + k) ∷ rest) × (k < 10)
+front-digit [] some h = absurd (omega arith)
+front-digit (d ∷ ds) some h =
+    let one = both-true (nat_le 48 d) (nat_le d 57) (both-true (is_digit d) (list_all is_digit ds) h).0 in
+    let low = leb-true 48 d one.0 in
+    let high = leb-true d 57 one.1 in
+    let same : d ≡ 48 + (d - 48) = omega arith in
+    (d - 48, ds, ap (λ (x : ℕ). x ∷ ds) same, omega arith)

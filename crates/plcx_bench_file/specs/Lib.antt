@@ -1,2 +1,5 @@
 pub mod Markup
 pub mod File
+pub mod Unbroken
+-- serves proofs
+pub mod Text

@@ -1,9 +1,11 @@
-//! The exchange file of the project that `bench N` measures.
+//! The exchange file of the project that `bench N` measures, and the project that is read from it.
 //!
-//! `bench_bytes` says how it is spelled, and `bench_root` which tree it is: `file_stands` says that the bytes stand for
-//! the tree, and `file_in_form` that it breaks none of the rules on the form of a file.
+//! `bench_bytes` says which file that is, and `bench_root` for which tree its bytes stand. That tree breaks no rule on
+//! its form or on what it declares, so `bench_project` gives the project, whatever N from 1 to 1000 is.
 #![tactic(auto)]
 
-mod law;
+mod reading;
+mod spelling;
 
-pub use law::{file_in_form, file_stands};
+pub use reading::bench_project;
+pub use spelling::bench_file;

@@ -1,26 +1,17 @@
-//! Tests over several crates, and of what needs no private name: trees, and the whole way, from words and files in memory
-//! to what both sinks got.
+//! Tests over several crates, of what no call of the program shows: trees, and the whole way from words and files in
+//! memory to what both sinks got, where a desk or a sink fails, or someone listens. The calls themselves have their rows
+//! in examples/rows.
 #![tactic(auto)]
 
 #[cfg(test)]
 mod benches;
 #[cfg(test)]
-mod coordinates;
+mod calls;
 #[cfg(test)]
-mod coverages;
-#[cfg(test)]
-mod cycles;
+mod faults;
 #[cfg(test)]
 mod files;
 #[cfg(test)]
-mod migrations;
+mod listening;
 #[cfg(test)]
-mod runs;
-#[cfg(test)]
-mod tests;
-#[cfg(test)]
-mod texts;
-#[cfg(test)]
-mod wires;
-#[cfg(test)]
-mod xml;
+mod trees;

@@ -1,12 +1,9 @@
-//! Tests of texts: their tokens, the units that they are, the places where they are refused, and their printed form.
+//! Tests of texts, of what no call of the program shows: their tokens, the units that they are, and their printed form. The
+//! places where texts are refused have their rows in examples/rows.
 #![tactic(auto)]
 
 #[cfg(test)]
 mod cuts;
-#[cfg(test)]
-mod machine;
-#[cfg(test)]
-mod places;
 #[cfg(test)]
 mod printed;
 #[cfg(test)]

@@ -1,5 +1,4 @@
 //! Units that texts are.
-use plcx_lex::{TextError, tokens};
 use plcx_read::read;
 use plcx_st::{Expr, Mark, Op, Stmt, TextBlock, TextClass, TextKind, Word};
 use plcx_types::Ty;
@@ -148,38 +147,5 @@ fn reads_each_heading(rt: HostRuntime) -> Result<(), Fail> {
     for (block, (class, mark)) in first.blocks.as_slice().iter().zip(classes) {
         assert!(rt; block.class == class && block.mark == mark);
     }
-    Ok(())
-}
-
-#[test]
-fn reads_brackets_up_to_the_limit(rt: HostRuntime) -> Result<(), Fail> {
-    for (brackets, fits) in [(253, true), (254, false), (100_000, false)] {
-        let mut text = b"PROGRAM P X := ".to_vec(rt.alloc())?;
-        for _ in 0..brackets {
-            text.push(b'(')?;
-        }
-        text.push(b'Y')?;
-        for _ in 0..brackets {
-            text.push(b')')?;
-        }
-        text.extend_from_slice(b"; END_PROGRAM")?;
-        let read = read(rt.alloc(), &text);
-        assert!(rt; fits == read.is_ok(), "at {brackets}");
-        assert!(rt; fits || matches!(read, Err(TextError::TooDeep { at }) if at == 15 + 253));
-    }
-    Ok(())
-}
-
-#[test]
-fn reads_a_text_of_a_mebibyte(rt: HostRuntime) -> Result<(), Fail> {
-    let mut text = b"PROGRAM P ".to_vec(rt.alloc())?;
-    for _ in 0..95_325 {
-        text.extend_from_slice(b"X := X + Y;")?;
-    }
-    text.extend_from_slice(b" END_PROGRAM")?;
-    let found = tokens(rt.alloc(), &text)?;
-    assert_eq!(rt; found.len(), 6 * 95_325 + 3);
-    let unit = read(rt.alloc(), &text)?;
-    assert!(rt; matches!(unit.pous.as_slice(), [pou] if pou.body.len() == 95_325));
     Ok(())
 }

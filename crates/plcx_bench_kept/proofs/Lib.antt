@@ -1,4 +1,0 @@
-pub mod Names
-pub mod Sizes
-pub mod Kept
-pub mod Settled
