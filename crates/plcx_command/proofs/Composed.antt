@@ -11,7 +11,7 @@ use Rattle.plcx_model.specs.declared.plan.Plan.{Plan}
 use Rattle.plcx_model.specs.declared.project.Project.{Project}
 use Rattle.plcx_st.specs.declared.tree.Unit.{Unit}
 use Rattle.plcx_st.specs.Grammar.{limit}
-use Rattle.plcx_st.specs.Stands.{StandsFor}
+use Rattle.plcx_st.specs.Stands.{StandsForUnit}
 use Rattle.plcx_st.specs.Meant.{meant}
 use Rattle.plcx_st.specs.Print.{printed}
 use Rattle.plcx_st.specs.InRange.{UnitInRange}
@@ -25,8 +25,8 @@ use Rattle.plcx_command.specs.Compiled.{HasDiagrams, IsCompiled, IsTextOf, IsRea
 
 -- what is printed of a unit that means the text of diagrams
 module _
-    (one_unit : (bytes : List ℕ) (u v : Unit) (c d : ℕ) → StandsFor bytes u c → StandsFor bytes v d → u ≡ v)
-    (again : (unit : List PouText) → UnitInRange unit → UnitFits unit → (v : Unit) × (d : ℕ) × (d ≤ limit) × StandsFor (printed unit) v d × (meant v ≡ unit))
+    (one_unit : (bytes : List ℕ) (u v : Unit) (c d : ℕ) → StandsForUnit bytes u c → StandsForUnit bytes v d → u ≡ v)
+    (again : (unit : List PouText) → UnitInRange unit → UnitFits unit → (v : Unit) × (d : ℕ) × (d ≤ limit) × StandsForUnit (printed unit) v d × (meant v ≡ unit))
   where
     read_back : (unit : List PouText) (diagrams : diagram.Project) → UnitInRange unit → UnitFits unit → IsReady unit → Behaves diagrams unit → IsReadBack (printed unit) diagrams
     read_back unit diagrams range fits ready behaves =

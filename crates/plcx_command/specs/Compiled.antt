@@ -12,7 +12,7 @@ use Rattle.plcx_view.specs.Checked.{IsChecked}
 use Rattle.plcx_view.specs.Diagrams.{diagrams_of}
 use Rattle.plcx_st.specs.declared.tree.Unit.{Unit}
 use Rattle.plcx_st.specs.Grammar.{limit}
-use Rattle.plcx_st.specs.Stands.{StandsFor}
+use Rattle.plcx_st.specs.Stands.{StandsForUnit}
 use Rattle.plcx_st.specs.Meant.{meant}
 use Rattle.plcx_st.specs.Print.{printed}
 use Rattle.plcx_command.specs.Verdict.{Keeps}
@@ -31,9 +31,9 @@ pub record HasDiagrams (bytes : List ℕ) (diagrams : diagram.Project) : Type 0 
 pub record IsReadBack (text : List ℕ) (diagrams : diagram.Project) : Type 0 where
   pub unit : Unit
   pub depth : ℕ
-  pub stands : StandsFor text unit depth
+  pub stands : StandsForUnit text unit depth
   pub shallow : depth ≤ limit
-  pub only : (other : Unit) (deep : ℕ) → StandsFor text other deep → other ≡ unit
+  pub only : (other : Unit) (deep : ℕ) → StandsForUnit text other deep → other ≡ unit
   pub ready : IsReady (meant unit)
   pub behaves : Behaves diagrams (meant unit)
 

@@ -5,15 +5,13 @@ use Rattle.std.specs.Option.{option_map, option_and_then}
 use Rattle.std.proofs.lemmas.Bool.{and_parts, or_parts, or_from, not-false, not_from_true}
 use Rattle.plcx_types.specs.declared.ty.Ty.{Ty}
 use Rattle.plcx_types.specs.Name.{in_lower_case}
-use Rattle.plcx_types.specs.Range.{InRange}
+use Rattle.plcx_types.specs.Range.{InRange, fits}
 use Rattle.plcx_types.specs.Lists.{Each}
-use Rattle.plcx_types.proofs.TypeTable.{within_range}
+use Rattle.plcx_types.proofs.TypeTable.{within_range, range_within}
 use Rattle.plcx_funcs.specs.declared.func.Func.{Func}
 use Rattle.plcx_funcs.specs.declared.func.Func.TheVariants as func
-use Rattle.plcx_funcs.specs.Applied.{fits}
 use Rattle.plcx_funcs.specs.Names.{function_named}
 use Rattle.plcx_funcs.specs.Pins.{can_have}
-use Rattle.plcx_funcs.proofs.Ranges.{fits_in_range}
 use Rattle.plcx_meaning.specs.Tree as tree
 use Rattle.plcx_meaning.specs.Tree.{Class, Local, Input, Output, InOut, Temp}
 use Rattle.plcx_meaning.specs.Layout.{Variable, variable_named, Meaning, Elementary, Composed, meaning, parts, parts_of}
@@ -35,7 +33,7 @@ pub literal_fits : (v : Literal) → broken_in_literal v ≡ [] → InRange v.va
 literal_fits v h = within_range v.value.ty v.value.n (not-false (fits v.value.ty v.value.n) (false_if_none _ c.Literal v.at h))
 
 pub literal_none : (v : Literal) → InRange v.value.ty v.value.n → broken_in_literal v ≡ []
-literal_none v h = none_if_false _ c.Literal v.at (not_from_true (fits v.value.ty v.value.n) (fits_in_range v.value.ty v.value.n h))
+literal_none v h = none_if_false _ c.Literal v.at (not_from_true (fits v.value.ty v.value.n) (range_within v.value.ty v.value.n h))
 
 -- ---- what is known of types
 

@@ -3,7 +3,7 @@ use Rattle.std.specs.Prelude.{ℕ, suc, Bool, true, false, not, ◌&&◌, ◌||�
 use Rattle.plcx_types.specs.declared.ty.Ty.{Ty}
 use Rattle.plcx_funcs.specs.declared.func.Func.{Func}
 use Rattle.plcx_funcs.specs.declared.func.Func.TheVariants as func
-use Rattle.plcx_funcs.specs.Applied.{fits}
+use Rattle.plcx_types.specs.Range.{fits}
 use Rattle.plcx_funcs.specs.Names.{function_named}
 use Rattle.plcx_funcs.specs.Pins.{can_have}
 use Rattle.plcx_meaning.specs.Tree.{Class, Local, Input, Output, InOut, Temp}

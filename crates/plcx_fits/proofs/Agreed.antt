@@ -5,13 +5,12 @@ use Rattle.std.specs.List.{Contains}
 use Rattle.std.proofs.lemmas.Option.{slice_get-map, get_or_from_slice_get}
 use Rattle.plcx_types.specs.declared.ty.Ty.{Ty}
 use Rattle.plcx_types.specs.declared.ty.Ty.TheVariants as ty
-use Rattle.plcx_types.specs.Range.{InRange}
+use Rattle.plcx_types.specs.Range.{InRange, fits}
 use Rattle.plcx_types.specs.TypeName.{same_ty}
 use Rattle.plcx_types.proofs.TypeTable.{same_is}
 use Rattle.plcx_funcs.specs.declared.pins.Class.{Class}
 use Rattle.plcx_funcs.specs.declared.pins.Class.TheVariants as class
-use Rattle.plcx_funcs.specs.Applied.{fits}
-use Rattle.plcx_funcs.proofs.Ranges.{fits_in_range, in_range_fits}
+use Rattle.plcx_types.proofs.TypeTable.{within_range, range_within}
 use Rattle.plcx_model.specs.declared.body.BodyElement.{BodyElement}
 use Rattle.plcx_model.specs.declared.project.Pou.{Pou}
 use Rattle.plcx_model.specs.declared.source.Source.{Source}
@@ -58,8 +57,8 @@ pub in_range : (t : Ty) (n : ℤ) → ((InRange t n → ⊥) → ⊥) → InRang
 in_range t n not = by (fits t n) refl
   where
     by : (b : Bool) → fits t n ≡ b → InRange t n
-    by true e = in_range_fits t n e
-    by false e = absurd (not (λ h. let k : false ≡ true = sym e ∙ fits_in_range t n h in cc))
+    by true e = within_range t n e
+    by false e = absurd (not (λ h. let k : false ≡ true = sym e ∙ range_within t n h in cc))
 
 module _ (pous : List Pou) (p : Pou) (tys : List Ty) (marks : List Bool) where
   -- what is known of a body whose links and types break no rule

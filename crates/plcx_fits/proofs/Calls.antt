@@ -11,7 +11,7 @@ use Rattle.plcx_funcs.specs.declared.pins.Class.TheVariants as class
 use Rattle.plcx_meaning.specs.Diagram as diagram
 use Rattle.plcx_meaning.specs.Diagram.{Link, InputPin, InOutPin, OutputPin, Enable, Port, links_of, enable_links}
 use Rattle.plcx_meaning.specs.Evaluate.{world_of}
-use Rattle.plcx_meaning.specs.Fits.{Standing, IsInstance, all_listed, HasType, IsVariable, CanBeWritten, InputFits, InOutFits, OutputFits, KindFits, EnableFits, CallFits}
+use Rattle.plcx_meaning.specs.Fits.{Standing, IsInstance, all_listed, IsDeclaredAs, IsVariable, CanBeWritten, InputFits, InOutFits, OutputFits, KindFits, EnableFits, CallFits}
 use Rattle.plcx_meaning.specs.Layout as layout
 use Rattle.plcx_meaning.specs.Tree as tree
 use Rattle.plcx_meaning.specs.Base.{are_distinct}
@@ -185,7 +185,7 @@ module _ (project : Project) (links : Links) (types : Types) (plan : Plan) (soun
       let count = s.count in
       let few_there = each_at (λ (x : PinIn). length x.input ≤ 64) inputs w.0 few.2 s.there in
       let name_is : declared_name (input_formal pous c inputs w.0) ≡ i.inside.pin.name = ap declared_name i.is_formal ∙ ap (λ (f : Formal). f.name) i.inside.is in (
-        subst (λ n. HasType inner n (wired_link pous p w).ty (λ c. c ≡ tree.Input)) (sym name_is) (subst (λ t. HasType inner i.inside.pin.name t (λ c. c ≡ tree.Input)) (sym (link_has pous p w.0.mods.negated w.1 ∙ ty.0)) i.inside.there),
+        subst (λ n. IsDeclaredAs inner n (wired_link pous p w).ty (λ c. c ≡ tree.Input)) (sym name_is) (subst (λ t. IsDeclaredAs inner i.inside.pin.name t (λ c. c ≡ tree.Input)) (sym (link_has pous p w.0.mods.negated w.1 ∙ ty.0)) i.inside.there),
         link_fits pous p tys marks dia networks k keeps given D v e st.element before form w.1 s.stand has (reads pous p tys marks dia networks v e st w.0.mods.negated w.1 contained) w.0.mods.negated (λ h. h) (omega (arith, some, count)) (omega (arith, few_there, count)),
       )
 
@@ -254,7 +254,7 @@ module _ (project : Project) (links : Links) (types : Types) (plan : Plan) (soun
           let same : lent.ty ≡ i.inside.pin.ty = sym agreed ∙ ty.0 in
           let variable_is : lent_by pous p (slice_get p.body.elements feed.0.element) ≡ lent_by pous p (Some f.element) = ap (lent_by pous p) f.there in (
             i.inside.pin.ty,
-            subst (λ n. HasType inner n i.inside.pin.ty (λ x. x ≡ tree.InOut)) (sym name_is) i.inside.there,
+            subst (λ n. IsDeclaredAs inner n i.inside.pin.ty (λ x. x ≡ tree.InOut)) (sym name_is) i.inside.there,
             subst (λ n. IsVariable vars n i.inside.pin.ty) (sym variable_is) (subst (λ t. IsVariable vars (lent_by pous p (Some f.element)) t) same lent.variable),
             subst (λ n. CanBeWritten vars n) (sym variable_is) lent.written,
           )
@@ -273,7 +273,7 @@ module _ (project : Project) (links : Links) (types : Types) (plan : Plan) (soun
       let ty_is : fixed_type (output_formal pous c outputs o) ≡ r.pin.ty = ap fixed_type one.1 ∙ ap (λ (f : Formal). fixed_type (Some f)) r.is in
       let out = listed_out pous p tys marks k keeps v e st.element type_name instance inputs in_outs outputs is c called place.0 o place.1 in
       let typed : Has sh (AtOutput (record { element = v; pin = place.0 })) r.pin.ty = DeclaredOutput (ap (λ (x : Out). x.gives) out ∙ ap (λ (x : Option Formal). gives_class (class_of x)) one.1 ∙ ap (λ (f : Formal). gives_class (Some f.class)) r.is) in (
-        subst (λ n. HasType inner n (fixed_type (output_formal pous c outputs o)) (λ x. x ≡ tree.Output)) (sym name_is) (subst (λ t. HasType inner r.pin.name t (λ x. x ≡ tree.Output)) (sym ty_is) r.there),
+        subst (λ n. IsDeclaredAs inner n (fixed_type (output_formal pous c outputs o)) (λ x. x ≡ tree.Output)) (sym name_is) (subst (λ t. IsDeclaredAs inner r.pin.name t (λ x. x ≡ tree.Output)) (sym ty_is) r.there),
         (λ negated. ty_is ∙ one_type r.pin.ty ty.Bool (λ differ. keeps.agrees v e st.element (OutputIsNoBool refl (ap (λ (x : Out). x.negated) out ∙ negated) typed differ))),
       )
 

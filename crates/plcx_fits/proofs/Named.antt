@@ -14,7 +14,7 @@ use Rattle.plcx_std.specs.declared.pin.Role.TheVariants as role
 use Rattle.plcx_meaning.specs.Diagram as diagram
 use Rattle.plcx_meaning.specs.Diagram.{Own, Output}
 use Rattle.plcx_meaning.specs.Evaluate.{world_of}
-use Rattle.plcx_meaning.specs.Fits.{HasType, IsVariable, CanBeWritten, IsInstance, OperandFits}
+use Rattle.plcx_meaning.specs.Fits.{IsDeclaredAs, IsVariable, CanBeWritten, IsInstance, OperandFits}
 use Rattle.plcx_meaning.specs.Layout.{variable_named, composed}
 use Rattle.plcx_meaning.specs.Layout as layout
 use Rattle.plcx_meaning.specs.Standard.{pin_blocks}
@@ -162,7 +162,7 @@ each_own pous all (d ∷ ds) (v ∷ vs) al own =
     (record { variable = v; found = ap (λ n. variable_named (in_lower_case n) all) (sym al.0.name) ∙ own.0; shown = al.0 }, each_own pous all ds vs al.1 own.1)
 
 -- a variable of an elementary type
-has_type : (pous : List Pou) (vs : List layout.Variable) (d : Declaration) (t : Ty) (Suits : tree.Class → Type 0) → Found pous vs d → d.variable.ty ≡ Plain t → Suits (class_of d.class) → HasType vs d.variable.name t Suits
+has_type : (pous : List Pou) (vs : List layout.Variable) (d : Declaration) (t : Ty) (Suits : tree.Class → Type 0) → Found pous vs d → d.variable.ty ≡ Plain t → Suits (class_of d.class) → IsDeclaredAs vs d.variable.name t Suits
 has_type pous vs d t Suits f is suits = record {
   variable = f.variable;
   found = f.found;
@@ -173,7 +173,7 @@ has_type pous vs d t Suits f is suits = record {
 -- ---- pins of blocks
 
 abbrev pub IsPinOf : List layout.Variable → tree.Class → BlockPin → Type 0
-IsPinOf vs c o = HasType vs o.name o.ty (λ class. class ≡ c)
+IsPinOf vs c o = IsDeclaredAs vs o.name o.ty (λ class. class ≡ c)
 
 standard_outputs : (k : StdKind) → Each (IsPinOf (layout.variables_of (pin_blocks k)) tree.Output) (standard_pins role.Out k)
 standard_outputs kind.Ton = (record { variable = _; found = refl; typed = refl; class = refl }, (record { variable = _; found = refl; typed = refl; class = refl }, tt))
@@ -339,5 +339,5 @@ module _ (project : Project) (links : Links) (types : Types) (plan : Plan) (soun
       let own = found_one (IsPinOf (within d.variable.ty) tree.Output) (λ (q : BlockPin). same_name from.2 q.name) (outputs_of_type pous d.variable.ty) o (outputs_there d.variable.ty f.shown.known) from.3 in (
         within d.variable.ty,
         subst (λ (bs : List tree.Block). IsInstance (world_of dia) (layout.variables_of bs) d.variable.name (within d.variable.ty)) (sym lists) (instance_there p s from.0 d from.1 (has_outputs d.variable.ty from.2 o from.3)),
-        subst (λ u. HasType (within d.variable.ty) o.name u (λ class. class ≡ tree.Output)) read own.0,
+        subst (λ u. IsDeclaredAs (within d.variable.ty) o.name u (λ class. class ≡ tree.Output)) read own.0,
       )

@@ -13,7 +13,7 @@ use Rattle.plcx_types.specs.TypeName.{type_name, type_named}
 use Rattle.plcx_types.specs.Value.{Value}
 use Rattle.plcx_std.specs.declared.kind.StdKind.{StdKind}
 use Rattle.plcx_std.specs.Kind.{kind_name, kind_named}
-use Rattle.plcx_meaning.specs.Address.{AddressFits}
+use Rattle.plcx_types.specs.Address.{AddressFits}
 use Rattle.plcx_meaning.specs.Base.{are_distinct}
 use Rattle.plcx_meaning.specs.Diagram.{block_named}
 use Rattle.plcx_meaning.specs.Diagram as diagram
@@ -37,7 +37,7 @@ use Rattle.plcx_model.specs.declared.project.Variable.{Variable}
 use Rattle.plcx_model.specs.declared.project.VarList.{VarList}
 use Rattle.plcx_model.specs.declared.project.Pou.{Pou}
 use Rattle.plcx_model.specs.declared.project.Project.{Project}
-use Rattle.plcx_model.specs.Sound.{variables_of, IsKnown, MayHold, InitialSuits, AddressSuits, VariableIsSound, ListIsSound, PouIsSound, Sound}
+use Rattle.plcx_model.specs.Sound.{variables_of, IsKnown, MayHold, InitialSuits, VariableIsSound, ListIsSound, PouIsSound, Sound}
 use Rattle.plcx_view.specs.Declared.{kind_of_pou, class_of, mark_by, mark_of, spelled_type, declaration_of, list_of, lists_of}
 use Rattle.plcx_fits.proofs.Lists.{names_distinct, each_place}
 use Rattle.plcx_fits.proofs.Spelled.{no_type, no_kind, kind_of_name, upper_types, names_of, seen, whole, block_found}
@@ -111,10 +111,6 @@ in_out_class class.InOut h = refl
 is_program_kind : (k : PouKind) → kind_of_pou k ≡ tree.Program → k ≡ Program
 is_program_kind Program h = refl
 is_program_kind FunctionBlock h = cc
-
-address_fits : (o : Option (List ℕ)) → AddressSuits o → AddressFits o
-address_fits None h = tt
-address_fits (Some address) h = h
 
 -- where an initial value suits its type, it is typed in the diagram
 initial_typed : (pous : List Pou) (t : VarTy) (o : Option Value) → InitialSuits t o → (value : Value) → o ≡ Some value → (type_named (spelled_type pous t) ≡ Some value.ty) × InRange value.ty value.n
@@ -230,5 +226,5 @@ module _ (project : Project) (links : Links) (types : Types) (plan : Plan) (soun
   addresses_fit p s = each_map AddressesFit (list_of pous) p.lists
       (each_weaker (ListIsSound pous p.kind) (λ (l : VarList). AddressesFit (list_of pous l)) p.lists
       (λ l h. each_map (λ (d : tree.Declaration). AddressFits d.address) (declaration_of pous) l.variables
-      (each_weaker (VariableIsSound pous l) (λ (v : Variable). AddressFits v.address) l.variables (λ v one. address_fits v.address one.address) h.variables))
+      (each_weaker (VariableIsSound pous l) (λ (v : Variable). AddressFits v.address) l.variables (λ v one. one.address) h.variables))
       s.lists)

@@ -2,7 +2,7 @@
 use Rattle.std.proofs.Common.{◌≡◌, ℕ, List, [], ◌∷◌, Bool, true, false, Option, Some, None, refl, ap, ◌∙◌, subst}
 use Rattle.std.specs.Prelude.{not, IfNone, if◌then◌else◌}
 use Rattle.std.specs.List.{find, list_all}
-use Rattle.std.specs.Option.{option_map}
+use Rattle.std.specs.Option.{option_or, option_map}
 use Rattle.std.specs.Str.{bytes_eq, str_eq_ignore_ascii_case}
 use Rattle.std.proofs.lemmas.Bool.{and_parts}
 use Rattle.std.proofs.lemmas.Slice.Eq.{bytes_eq-Decides}
@@ -16,7 +16,7 @@ use Rattle.plcx_types.proofs.Conversions.{conversion_reads, conversion_is, diffe
 use Rattle.plcx_types.proofs.Wholes.{mapped}
 use Rattle.plcx_funcs.specs.declared.func.Func.{Func}
 use Rattle.plcx_funcs.specs.declared.func.Func.TheVariants as f
-use Rattle.plcx_funcs.specs.Names.{function_name, plain_name, is_function, NamesFunction, plain_functions, plain_among, conversion_named, or_else, function_named}
+use Rattle.plcx_funcs.specs.Names.{function_name, plain_name, is_function, NamesFunction, plain_functions, plain_among, conversion_named, function_named}
 
 -- no function of the table has the name of a conversion
 not_plain : (from to : Ty) → plain_among plain_functions (conversion_name from to) ≡ None
@@ -64,12 +64,12 @@ found_again f.Lt real = refl
 found_again f.Ne real = refl
 found_again (f.Conv from to) real =
     let name = conversion_name from to in
-    ap (λ o. or_else o (conversion_named name)) (not_plain from to)
+    ap (λ o. option_or o (conversion_named name)) (not_plain from to)
     ∙ ap (option_map (λ (types : Ty × Ty). f.Conv types.0 types.1)) (conversion_reads name from to (record { apart = differs (same_ty from to) real; spelled = refl }))
 
 -- a function by its name in lower case
 abbrev by_key : List ℕ → Option Func
-by_key key = or_else (find (λ g. bytes_eq key (in_lower_case (plain_name g))) plain_functions) (option_map (λ types. f.Conv types.0 types.1) (conversion_of key))
+by_key key = option_or (find (λ g. bytes_eq key (in_lower_case (plain_name g))) plain_functions) (option_map (λ types. f.Conv types.0 types.1) (conversion_of key))
 
 pub function_reads : (word : List ℕ) (g : Func) → NamesFunction word g → function_named word ≡ Some g
 function_reads word g names = ap by_key names.spelled ∙ found_again g names.real
@@ -138,7 +138,7 @@ conversion_names word g h =
 pub function_is : (word : List ℕ) (g : Func) → function_named word ≡ Some g → NamesFunction word g
 function_is word g h = by (plain_among plain_functions word) refl h
   where
-    by : (o : Option Func) → plain_among plain_functions word ≡ o → or_else o (conversion_named word) ≡ Some g → NamesFunction word g
+    by : (o : Option Func) → plain_among plain_functions word ≡ o → option_or o (conversion_named word) ≡ Some g → NamesFunction word g
     by None e k = conversion_names word g k
     by (Some found) e k = plain_names word g (e ∙ k)
 

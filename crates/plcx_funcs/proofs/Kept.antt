@@ -11,7 +11,7 @@ use Rattle.plcx_types.specs.declared.ty.Ty.{Ty}
 use Rattle.plcx_types.specs.declared.ty.Ty.TheVariants as ty
 use Rattle.plcx_types.specs.Range.{InRange, bounds_of}
 use Rattle.plcx_types.specs.declared.ty.Bounds.{Bounds}
-use Rattle.plcx_types.specs.ElementaryTypes.{unsigned}
+use Rattle.plcx_types.specs.ElementaryTypes.{unsigned_bounds}
 use Rattle.plcx_types.specs.TypeName.{same_ty}
 use Rattle.plcx_types.proofs.TypeTable.{same_is}
 use Rattle.plcx_types.specs.Value.{Value}
@@ -141,7 +141,7 @@ turned_in_range ty.Ulint n bits h = (grind (arith, ints), grind (arith, ints))
 turned_in_range ty.Time n bits h = (grind (arith, ints), grind (arith, ints))
 
 -- the numbers of BOOL and of a bit string are those of its width
-bounds_of_bits : (t : Ty) → is_allowed set.Bits t ≡ true → bounds_of t ≡ unsigned (width t)
+bounds_of_bits : (t : Ty) → is_allowed set.Bits t ≡ true → bounds_of t ≡ unsigned_bounds (width t)
 bounds_of_bits ty.Bool bits = refl
 bounds_of_bits ty.Byte bits = refl
 bounds_of_bits ty.Word bits = refl
@@ -161,7 +161,7 @@ of_unsigned bits (negsuc n) low high = grind (arith, ints, low)
 pub below_width : (t : Ty) (n : ℤ) → is_allowed set.Bits t ≡ true → InRange t n → (unsigned_abs n < 2 ^ width t) × (pos (unsigned_abs n) ≡ n)
 below_width t n bits range =
     let P : Bounds → Type 0 = λ b. (b.low ≤ℤ n) × (n ≤ℤ b.high) in
-    let same : P (unsigned (width t)) = subst P (bounds_of_bits t bits) range in
+    let same : P (unsigned_bounds (width t)) = subst P (bounds_of_bits t bits) range in
     of_unsigned (width t) n same.0 same.1
 
 -- what a conversion makes anew

@@ -5,8 +5,7 @@ use Rattle.std.specs.Prelude.{FitsSigned, unsigned_abs}
 use Rattle.std.proofs.lemmas.Int.{ints}
 use Rattle.plcx_types.specs.declared.ty.Ty.{Ty}
 use Rattle.plcx_types.specs.declared.ty.Ty.TheVariants as ty
-use Rattle.plcx_types.specs.Range.{InRange}
-use Rattle.plcx_funcs.specs.Applied.{fits}
+use Rattle.plcx_types.specs.Range.{InRange, fits}
 
 -- a number of a type is one of 128 bits
 pub fits_wide : (t : Ty) (z : ℤ) → fits t z ≡ true → FitsSigned w128 z
@@ -38,13 +37,6 @@ fits_wide ty.Ulint (pos n) h = grind (arith, ints)
 fits_wide ty.Ulint (negsuc n) h = grind (arith, ints)
 fits_wide ty.Time (pos n) h = grind (arith, ints)
 fits_wide ty.Time (negsuc n) h = grind (arith, ints)
-
--- the test of a range as the range
-pub fits_in_range : (t : Ty) (z : ℤ) → InRange t z → fits t z ≡ true
-fits_in_range t z h = grind (arith, ints)
-
-pub in_range_fits : (t : Ty) (z : ℤ) → fits t z ≡ true → InRange t z
-in_range_fits t z h = (grind (arith, ints), grind (arith, ints))
 
 -- a number of a type has at most 64 bits behind its sign
 pub abs_below : (t : Ty) (z : ℤ) → InRange t z → unsigned_abs z < 2 ^ 64

@@ -8,19 +8,16 @@ use Rattle.plcx_types.specs.declared.ty.Ty.TheVariants as ty
 use Rattle.plcx_types.specs.declared.fault.Fault.{Fault}
 use Rattle.plcx_types.specs.declared.fault.Fault.TheVariants as fault
 use Rattle.plcx_types.specs.ElementaryTypes.{row_of}
-use Rattle.plcx_types.specs.Range.{bounds_of}
+use Rattle.plcx_types.specs.Range.{bounds_of, fits}
 use Rattle.plcx_types.specs.TypeName.{same_ty}
 use Rattle.plcx_types.specs.Value.{Value}
+pub use Rattle.plcx_types.specs.Literal.{value}
 use Rattle.plcx_funcs.specs.declared.func.Func.{Func}
 use Rattle.plcx_funcs.specs.declared.func.Func.TheVariants as f
 use Rattle.plcx_funcs.specs.declared.pins.Class.{Class}
 use Rattle.plcx_funcs.specs.declared.pins.Class.TheVariants as class
 use Rattle.plcx_funcs.specs.Types.{is_allowed, is_bool, is_word, is_whole}
 use Rattle.plcx_funcs.specs.Pins.{can_have, group_types, input_class}
-
--- the value of a type and a number
-abbrev pub value : Ty → ℤ → Value
-value t n = record { ty = t; n = n }
 
 -- the argument at a place
 abbrev pub value_at : List Value → ℕ → Value
@@ -29,10 +26,6 @@ value_at args i = slice_index_or args i (value ty.Bool (pos 0))
 -- its number
 abbrev pub number_at : List Value → ℕ → ℤ
 number_at args i = (value_at args i).n
-
--- the number is one of the type
-abbrev pub fits : Ty → ℤ → Bool
-fits t n = int_le (bounds_of t).low n && int_le n (bounds_of t).high
 
 -- the number as a value of the type, or Range
 abbrev pub checked : Ty → ℤ → Result Value Fault

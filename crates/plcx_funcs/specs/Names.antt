@@ -1,7 +1,7 @@
 -- The names of the functions.
 use Rattle.std.specs.Prelude.{◌≡◌, ℕ, List, [], ◌∷◌, Option, Some, None, Bool, true, not}
 use Rattle.std.specs.List.{find}
-use Rattle.std.specs.Option.{option_map}
+use Rattle.std.specs.Option.{option_or, option_map}
 use Rattle.std.specs.Str.{str_eq_ignore_ascii_case}
 use Rattle.plcx_types.specs.Conversion.{conversion_name}
 use Rattle.plcx_types.specs.Name.{in_lower_case}
@@ -43,11 +43,6 @@ plain_among table word = find (λ g. str_eq_ignore_ascii_case word (plain_name g
 abbrev pub conversion_named : List ℕ → Option Func
 conversion_named word = option_map (λ types. f.Conv types.0 types.1) (conversion_of (in_lower_case word))
 
--- the first, or else the second
-abbrev pub or_else : Option Func → Option Func → Option Func
-or_else (Some g) other = Some g
-or_else None other = other
-
 -- the function whose name is the word, whatever the case of its letters: `lookup` says that it is this one and no other
 abbrev pub function_named : List ℕ → Option Func
-function_named word = or_else (plain_among plain_functions word) (conversion_named word)
+function_named word = option_or (plain_among plain_functions word) (conversion_named word)

@@ -5,7 +5,7 @@ ghost use Rattle.plcx_funcs.specs.Applied.{checked, value, value_at, number_at, 
 
 use plcx_types::{Fault, Ty, Val, default_of};
 
-#[tactic(auto, using(crate::proofs::Ranges::fits_in_range, crate::proofs::Ranges::in_range_fits))]
+#[tactic(auto, using(plcx_types::proofs::TypeTable::within_range, plcx_types::proofs::TypeTable::range_within))]
 pub(crate) fn checked(ty: Ty, n: i128) -> Result<Val, Fault>
     ensures { result ≡ checked ty n }
 {

@@ -4,9 +4,9 @@ use Rattle.std.specs.List.{list_any}
 use Rattle.std.specs.Option.{option_and_then}
 use Rattle.plcx_types.specs.declared.ty.Ty.{Ty}
 use Rattle.plcx_types.specs.Literal.{value}
+use Rattle.plcx_types.specs.Range.{fits}
 use Rattle.plcx_types.specs.TypeName.{same_ty}
 use Rattle.plcx_types.specs.Value.{Value}
-use Rattle.plcx_funcs.specs.Applied.{fits}
 use Rattle.plcx_funcs.specs.Types.{is_whole}
 use Rattle.plcx_meaning.specs.Base.{Path, same_path}
 use Rattle.plcx_state.specs.declared.layout.Leaf.{Leaf}

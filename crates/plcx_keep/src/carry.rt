@@ -3,8 +3,8 @@ ghost use Rattle.std.specs.Prelude.{◌≡◌, ◌<◌, ◌^◌, ◌++◌, ◌&&
 ghost use Rattle.std.specs.List.{list_any};
 ghost use Rattle.plcx_types.specs.Lists.{Each};
 ghost use Rattle.plcx_types.specs.Literal.{value};
+ghost use Rattle.plcx_types.specs.Range.{fits};
 ghost use Rattle.plcx_types.specs.TypeName.{same_ty};
-ghost use Rattle.plcx_funcs.specs.Applied.{fits};
 ghost use Rattle.plcx_state.specs.Layouts.{is_kept, leaf_at, meant_path, HasName};
 ghost use Rattle.plcx_state.specs.Retains.{IsRetainedOf};
 ghost use Rattle.plcx_state.specs.Tables.{path_text, HasPlainNames, IsTold};
@@ -48,7 +48,7 @@ pub struct Carry {
 }
 
 /// The value of a type and a number, where it is one.
-#[tactic(auto, using(plcx_funcs::proofs::Ranges::fits_in_range, plcx_funcs::proofs::Ranges::in_range_fits))]
+#[tactic(auto, using(plcx_types::proofs::TypeTable::within_range, plcx_types::proofs::TypeTable::range_within))]
 fn value_from(ty: Ty, n: i128) -> Option<Val>
     ensures { result ≡ (if fits ty n then Some (value ty n) else None) }
 {

@@ -9,6 +9,7 @@ use crate::runs::{Class, prefix, run_len};
 use crate::sign::sign;
 use crate::terminal::{Terminal, word_terminal};
 use crate::whole::typed_len;
+use plcx_types::limits::MAX_NAME_BYTES;
 
 fn is_first(byte: u8) -> bool
     ensures { result ≡ is_first_byte byte }
@@ -21,7 +22,7 @@ fn word_token(text: &[u8]) -> (Terminal, usize)
     requires first { is_first_byte (slice_index text.now 0) ≡ true }
     ensures { LongestTold text.now result.0 result.1 }
 {
-    let n = run_len(Class::Part, prefix(128, text));
+    let n = run_len(Class::Part, prefix(MAX_NAME_BYTES, text));
     match typed_len(n, text) {
         Some(long) => (Terminal::Number, long),
         None => (word_terminal(&text[..n]), n),

@@ -5,6 +5,7 @@ ghost use Rattle.plcx_types.specs.Address.{is_one_of};
 ghost use Rattle.plcx_lex.specs.Lexis.{is_decimal};
 ghost use Rattle.std.specs.Char.{to_ascii_lowercase};
 ghost use Rattle.plcx_types.specs.declared.ty.Ty.TheVariants as ty;
+ghost use Rattle.plcx_types.specs.Limits.{max_name_bytes};
 ghost use Rattle.plcx_types.specs.Name.{in_lower_case, is_next_byte};
 ghost use Rattle.plcx_lex.specs.Scan.{longer, is_end, IsRun, Finds, After, Numeral, Whole, Truth, Number, Typed};
 
@@ -155,7 +156,7 @@ fn number_len(ty: Ty, text: &[u8]) -> Option<usize>
 
 /// How long the longest number with its type's name is. The word at the front has n bytes.
 pub(crate) fn typed_len(n: usize, text: &[u8]) -> Option<usize>
-    requires { IsRun is_next_byte (take 128 text.now) n }
+    requires { IsRun is_next_byte (take max_name_bytes text.now) n }
     ensures { Finds Typed (in_lower_case text.now) result }
 {
     if n == text.len() || text[n] != b'#' {

@@ -5,7 +5,8 @@ use Rattle.std.specs.List.{list_any, list_all, sum_by, Contains}
 use Rattle.std.specs.Str.{bytes_eq}
 use Rattle.plcx_types.specs.declared.ty.Ty.{Ty}
 use Rattle.plcx_types.specs.declared.ty.Ty.TheVariants as ty
-use Rattle.plcx_types.specs.Limits.{max_declared_name_bytes, max_variables, max_elements, max_instance_chain, max_leaves, max_parts}
+use Rattle.plcx_types.specs.Address.{AddressFits}
+use Rattle.plcx_types.specs.Limits.{max_declared_name_bytes, max_variables, max_elements, max_pin_connections, max_instance_chain, max_leaves, max_parts}
 use Rattle.plcx_types.specs.Name.{in_lower_case, is_identifier, is_next_byte}
 use Rattle.plcx_types.specs.Range.{InRange}
 use Rattle.plcx_types.specs.Reserved.{is_reserved}
@@ -17,7 +18,6 @@ use Rattle.plcx_types.specs.Lists.{Each}
 use Rattle.plcx_meaning.specs.Base.{are_distinct, all_differ}
 use Rattle.plcx_meaning.specs.Tree as tree
 use Rattle.plcx_meaning.specs.Tree.{PouKind, Program, Class, Temp, Plain, Declaration, Block}
-use Rattle.plcx_meaning.specs.Address.{AddressFits}
 use Rattle.plcx_meaning.specs.Layout.{Variable, InitialIsTyped, variables_of, variable_named, World, composed, layout}
 use Rattle.plcx_meaning.specs.Functions.{group_of, can_apply, out_type}
 use Rattle.plcx_meaning.specs.Diagram.{Source, Rail, Literal, Wire, Back, Link, Operand, Own, Output, Storing, Stored, Enable, InputPin, InOutPin, OutputPin, ElementKind, Still, In, Out, Contact, Coil, Pass, Label, Jump, Return, Function, Call, Port, port, ports, is_fed, DiagramElement, Pou, Project, block_named}
@@ -28,7 +28,7 @@ abbrev pub IsGoodName : List ℕ → Type 0
 IsGoodName name = IsTrue (is_identifier name) × (length name ≤ max_declared_name_bytes) × (is_reserved name ≡ false)
 
 -- the name is declared with the type among these variables, in a class of these
-pub record HasType (vs : List Variable) (x : List ℕ) (t : Ty) (Suits : Class → Type 0) : Type 0 where
+pub record IsDeclaredAs (vs : List Variable) (x : List ℕ) (t : Ty) (Suits : Class → Type 0) : Type 0 where
   pub variable : Variable
   pub found : variable_named (in_lower_case x) vs ≡ Some variable
   pub typed : type_named variable.ty ≡ Some t
@@ -36,7 +36,7 @@ pub record HasType (vs : List Variable) (x : List ℕ) (t : Ty) (Suits : Class �
 
 -- a variable of a diagram
 abbrev pub IsVariable : List Variable → List ℕ → Ty → Type 0
-IsVariable vs x t = HasType vs x t (λ class. class ≢ Temp)
+IsVariable vs x t = IsDeclaredAs vs x t (λ class. class ≢ Temp)
 
 -- a variable that can be written: no input and no constant
 abbrev pub CanBeWritten : List Variable → List ℕ → Type 0
@@ -70,19 +70,19 @@ SourceFits at t (Literal negated n) = InRange t n × (negated ≡ true → t ≡
 SourceFits at t (Wire id pin) = Contains at.done (id, port pin t)
 SourceFits at t (Back id pin) = FeedsBack at.pou id (port pin t)
 
--- the sources of a pin suit it, and there are at most 64
+-- the sources of a pin suit it, and they are not too many
 pub record LinkFits (at : Standing) (link : Link) : Type 0 where
   pub first : SourceFits at link.ty link.first
   pub others : Each (SourceFits at link.ty) link.others
   -- only truth values are negated or joined
   pub negated : link.negated ≡ true → link.ty ≡ ty.Bool
   pub several : link.others ≢ [] → link.ty ≡ ty.Bool
-  pub few : length link.others ≤ 63
+  pub few : length (link.first ∷ link.others) ≤ max_pin_connections
 
 -- what is read is a variable of the type, or an output of an instance
 abbrev pub OperandFits : Standing → Operand → Ty → Type 0
 OperandFits at (Own x) t = IsVariable (variables at) x t
-OperandFits at (Output i x) t = (within : List Variable) × IsInstance (world_of at.project) (variables at) i within × HasType within x t (λ class. class ≡ tree.Output)
+OperandFits at (Output i x) t = (within : List Variable) × IsInstance (world_of at.project) (variables at) i within × IsDeclaredAs within x t (λ class. class ≡ tree.Output)
 
 -- what is inverted, set or reset is a truth value
 abbrev pub StoringFits : Storing → Ty → Type 0
@@ -95,15 +95,15 @@ EnableFits at enable = (link : Link) → enable.en ≡ Some link → LinkFits at
 
 -- a connected input is one of the block's, and its link has that one's type
 abbrev pub InputFits : Standing → List Variable → InputPin → Type 0
-InputFits at within i = HasType within i.name i.link.ty (λ class. class ≡ tree.Input) × LinkFits at i.link
+InputFits at within i = IsDeclaredAs within i.name i.link.ty (λ class. class ≡ tree.Input) × LinkFits at i.link
 
 -- an in-out is one of the block's, and stands for a variable of its type that can be written
 abbrev pub InOutFits : Standing → List Variable → InOutPin → Type 0
-InOutFits at within i = (t : Ty) × HasType within i.name t (λ class. class ≡ tree.InOut) × IsVariable (variables at) i.variable t × CanBeWritten (variables at) i.variable
+InOutFits at within i = (t : Ty) × IsDeclaredAs within i.name t (λ class. class ≡ tree.InOut) × IsVariable (variables at) i.variable t × CanBeWritten (variables at) i.variable
 
 -- a listed output is one of the block's; only truth values are negated
 abbrev pub OutputFits : List Variable → OutputPin → Type 0
-OutputFits within o = HasType within o.name o.ty (λ class. class ≡ tree.Output) × (o.negated ≡ true → o.ty ≡ ty.Bool)
+OutputFits within o = IsDeclaredAs within o.name o.ty (λ class. class ≡ tree.Output) × (o.negated ≡ true → o.ty ≡ ty.Bool)
 
 -- each in-out of a block is one of the listed
 abbrev pub all_listed : List InOutPin → List Variable → Bool

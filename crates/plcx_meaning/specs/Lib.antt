@@ -11,7 +11,6 @@ pub mod Watch
 pub mod Execute
 -- The text of a diagram; what a project has to fit; and when two sides are the same.
 pub mod Templates
-pub mod Address
 pub mod Fits
 pub mod Same
 pub mod Traces

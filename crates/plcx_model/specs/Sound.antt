@@ -1,7 +1,7 @@
 -- What the checks from rule 20 on may presume of a project.
 use Rattle.std.specs.Prelude.{◌≡◌, ◌≢◌, ℕ, zero, suc, ◌+◌, ◌^◌, ◌<◌, ◌≤◌, true, false, length, List, [], ◌∷◌, ◌++◌, map, filter_map, Option, Some, None, AllPairs, sum_by, slice_get}
 use Rattle.std.specs.List.{flat_map}
-use Rattle.plcx_types.specs.Address.{IsUpperAddress}
+use Rattle.plcx_types.specs.Address.{AddressFits}
 use Rattle.plcx_types.specs.Limits.{max_pous, max_variables, max_elements, max_connections, max_pin_connections, max_pins, max_instance_chain, max_leaves, max_parts, max_declared_name_bytes}
 use Rattle.plcx_types.specs.Name.{is_identifier, in_lower_case}
 use Rattle.plcx_types.specs.Range.{InRange}
@@ -56,11 +56,6 @@ InitialSuits t None = Unit {0}
 InitialSuits (Plain t) (Some v) = (v.ty ≡ t) × InRange t v.n
 InitialSuits _ (Some v) = ⊥
 
--- an address is in upper case and has the form of one
-abbrev pub AddressSuits : Option (List ℕ) → Type 0
-AddressSuits None = Unit {0}
-AddressSuits (Some address) = IsUpperAddress address
-
 -- At most so many instances of function blocks stand in one another where a variable has this type, itself among them.
 abbrev pub Nests : List Pou → ℕ → VarTy → Type 0
 Nests pous zero (Block place) = ⊥
@@ -74,7 +69,7 @@ pub record VariableIsSound (pous : List Pou) (list : VarList) (v : Variable) : T
   pub known : IsKnown pous v.ty
   pub instance : MayHold list v.ty
   pub initial : InitialSuits v.ty v.initial
-  pub address : AddressSuits v.address
+  pub address : AddressFits v.address
   pub nests : Nests pous max_instance_chain v.ty
   -- an in-out has neither an address nor an initial value
   pub in_out : list.class ≡ InOut → (v.address ≡ None) × (v.initial ≡ None)

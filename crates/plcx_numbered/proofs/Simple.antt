@@ -19,7 +19,7 @@ use Rattle.plcx_steps.specs.declared.program.Step.TheVariants.{Act}
 use Rattle.plcx_steps.specs.Numbered.{Numbered, Here, Entered, Frame, frame, bit, value_at, number_at, cells_of, read, leaf_at, step_in, steps_do}
 use Rattle.plcx_numbered.specs.Agreeing.{AreApart, Shape, IsApart, Lies, Agree, SameInOuts, SameWires, Alike}
 use Rattle.plcx_numbered.specs.Prepared.{on, off, operand_of, link_steps, link_source, store_steps, contact_steps, coil_steps}
-use Rattle.plcx_numbered.specs.Right.{Place, variables, IsWire, IsCell, IsOperand, StandsFor, RightLink, RightOperand, RightContact, RightCoil}
+use Rattle.plcx_numbered.specs.Right.{Place, variables, IsWire, IsCell, IsOperand, NamesOperand, RightLink, RightOperand, RightContact, RightCoil}
 use Rattle.plcx_numbered.proofs.Keys.{pins_decide}
 use Rattle.plcx_numbered.proofs.Holding.{wires_fix, agree_set, agree_keep}
 use Rattle.plcx_numbered.proofs.Alikes.{both_end, alike_as, alike_from, steps_append}
@@ -38,7 +38,7 @@ fixed_self ws id pin v = ap (λ b. if b then v else ws id pin) ((pins_decide (id
 module _ {M : Type 0} (whole : Shape) (apart : IsApart whole) (tell : M → Heard → M) (begun : M) (enter : Entered M) (c : Place) (pins_apart : AreApart c.pins) (spare : length c.pins ≤ c.num.spare) (site : Site) (here : Here)
     (lies : Lies whole c.plan.shape site.path here.at) (same_in_outs : SameInOuts whole c.plan.in_outs site.bound here.in_outs) where
   -- what a name stands for
-  pub named_at : (x : List ℕ) (o : Operand) → StandsFor c x o → slice_get whole.paths (leaf_at here.at here.in_outs o) ≡ Some (leaf_named (variables c) site x)
+  pub named_at : (x : List ℕ) (o : Operand) → NamesOperand c x o → slice_get whole.paths (leaf_at here.at here.in_outs o) ≡ Some (leaf_named (variables c) site x)
   named_at x (Leaf o) h = lies.paths o (in_lower_case x ∷ []) h.1 ∙ ap (λ b. Some (if b then site.bound (in_lower_case x) else in_lower_case x ∷ site.path)) (sym h.0)
   named_at x (InOut j) h = same_in_outs.each j (in_lower_case x) h.1 ∙ ap (λ b. Some (if b then site.bound (in_lower_case x) else in_lower_case x ∷ site.path)) (sym h.0)
 

@@ -13,7 +13,7 @@ use Rattle.plcx_meaning.specs.Layout.{Variable, variables_of}
 use Rattle.plcx_meaning.specs.Diagram as diagram
 use Rattle.plcx_meaning.specs.Diagram.{Link, Enable, has_eno, eno_ports, Port, port, ports, has_edge, DiagramElement, Pou, Project, block_named}
 use Rattle.plcx_meaning.specs.Evaluate.{world_of}
-use Rattle.plcx_meaning.specs.Fits.{HasType, IsInstance, SourceFits, LinkFits, OperandFits, EnableFits, Standing, PouFits, PouNests, ProjectFits}
+use Rattle.plcx_meaning.specs.Fits.{IsDeclaredAs, IsInstance, SourceFits, LinkFits, OperandFits, EnableFits, Standing, PouFits, PouNests, ProjectFits}
 use Rattle.plcx_meaning.proofs.Lists.{each_weaker, each_from, each_append, each_map, each_flat_map, contains_first, contains_map, contains_flat_map}
 use Rattle.plcx_meaning.proofs.Names.{folded_twice}
 use Rattle.plcx_meaning.proofs.StaticsWorlds.{block_fits}
@@ -90,7 +90,7 @@ module _ (project : Project) (fits : ProjectFits project) (p : Pou) (one : PouFi
     pub enable_right : (id : ℕ) (enable : Enable) → EnableFits at enable → (has_eno enable ≡ true → IsWire (place_of project p es width) id (codes "ENO")) → RightEnable (place_of project p es width) id enable
     enable_right id enable h eno = record { en = λ link e. link_right link (h link e).0; eno = eno }
 
-    pub inner_right : (i x : List ℕ) (within : List Variable) (t : Ty) → (inst : IsInstance (world_of project) (variables_of p.lists) i within) → (h : HasType within x t (λ class. (class ≢ tree.Temp) × (class ≢ tree.InOut)))
+    pub inner_right : (i x : List ℕ) (within : List Variable) (t : Ty) → (inst : IsInstance (world_of project) (variables_of p.lists) i within) → (h : IsDeclaredAs within x t (λ class. (class ≢ tree.Temp) × (class ≢ tree.InOut)))
         → IsInner (place_of project p es width) i x
     inner_right i x within t inst h =
         slice_get-map (λ (y : Place). y.0) (places_of project (variables_of p.lists)) _

@@ -24,7 +24,7 @@ use Rattle.plcx_meaning.proofs.Lists.{each_at, each_from, contains_cases, contai
 use Rattle.plcx_meaning.proofs.Lookups.{found_name}
 use Rattle.plcx_meaning.proofs.Units.{variable_there}
 use Rattle.plcx_steps.specs.declared.program.Operand.TheVariants as operand
-use Rattle.plcx_numbered.specs.Right.{IsOperand, StandsFor}
+use Rattle.plcx_numbered.specs.Right.{IsOperand, NamesOperand}
 use Rattle.plcx_numbered.specs.Numbers.{Place, behind, variable_places, places, first_leaf, number_of, in_out_names, places_of, inner_depth, depth, leaf_count, place_of}
 use Rattle.plcx_numbered.proofs.Numbers.{number_there}
 use Rattle.plcx_numbered.proofs.Leaves.{composed_user, composed_standard, AreDistinct, meant_by, places_steady, pins_steady, from_first}
@@ -162,7 +162,7 @@ module _ (project : Project) (distinct : AreDistinct project) (p : Pou) (fits : 
   operand_right es width x t h = by_test (is_in_out (variable_named (in_lower_case x) vs)) refl
     where
       by_test : (b : Bool) → is_in_out (variable_named (in_lower_case x) vs) ≡ b
-          → StandsFor (place_of project p es width) x (if b then operand.InOut (number_of bytes_eq (in_out_names vs) (in_lower_case x)) else operand.Leaf (first (in_lower_case x) vs))
+          → NamesOperand (place_of project p es width) x (if b then operand.InOut (number_of bytes_eq (in_out_names vs) (in_lower_case x)) else operand.Leaf (first (in_lower_case x) vs))
       by_test true e =
           let v = h.variable in
           let is : is_in_out (Some v) ≡ true = ap is_in_out (sym h.found) ∙ e in

@@ -53,12 +53,12 @@ abbrev pub IsInner : Place → (instance x : List ℕ) → Type 0
 IsInner c instance x = slice_get c.plan.shape.paths (c.num.inner instance x) ≡ Some (in_lower_case x ∷ in_lower_case instance ∷ [])
 
 -- what a variable's name stands for
-abbrev pub StandsFor : Place → List ℕ → Operand → Type 0
-StandsFor c x (Leaf offset) = (is_in_out (variable_named (in_lower_case x) (variables c)) ≡ false) × (slice_get c.plan.shape.paths offset ≡ Some (in_lower_case x ∷ []))
-StandsFor c x (InOut j) = (is_in_out (variable_named (in_lower_case x) (variables c)) ≡ true) × (slice_get c.plan.in_outs j ≡ Some (in_lower_case x))
+abbrev pub NamesOperand : Place → List ℕ → Operand → Type 0
+NamesOperand c x (Leaf offset) = (is_in_out (variable_named (in_lower_case x) (variables c)) ≡ false) × (slice_get c.plan.shape.paths offset ≡ Some (in_lower_case x ∷ []))
+NamesOperand c x (InOut j) = (is_in_out (variable_named (in_lower_case x) (variables c)) ≡ true) × (slice_get c.plan.in_outs j ≡ Some (in_lower_case x))
 
 abbrev pub IsOperand : Place → List ℕ → Type 0
-IsOperand c x = StandsFor c x (c.num.operand x)
+IsOperand c x = NamesOperand c x (c.num.operand x)
 
 -- ---- links
 

@@ -9,7 +9,7 @@ use Rattle.plcx_st.specs.Grammar.{limit, ArePous}
 use Rattle.plcx_lex.specs.declared.error.TextError.{TextError}
 use Rattle.plcx_lex.specs.declared.error.TextError.TheVariants as text
 use Rattle.plcx_st.specs.Place.{Fault, Syntax, TooDeep, IsPlace, start_of}
-use Rattle.plcx_st.specs.Stands.{StandsFor}
+use Rattle.plcx_st.specs.Stands.{StandsForUnit}
 use Rattle.plcx_read.specs.Reading.{syntax, too_deep, told_too_deep, Stop, pous}
 use Rattle.plcx_read.specs.Gives.{located, Fails}
 use Rattle.plcx_read.specs.Fails.{IsRead, ReadFails}
@@ -24,7 +24,7 @@ ok_is : {A : Type 0} (x y : A) → done x ≡ done y → x ≡ y
 ok_is x y h = cc
 
 -- what stands for a unit is read from its tokens
-pub reads : (bytes : List ℕ) (ts : List Token) (u : tree.Unit) (d : ℕ) → AreTextTokens bytes ts → d ≤ limit → StandsFor bytes u d → pous limit ts ≡ Ok u.pous
+pub reads : (bytes : List ℕ) (ts : List Token) (u : tree.Unit) (d : ℕ) → AreTextTokens bytes ts → d ≤ limit → StandsForUnit bytes u d → pous limit ts ≡ Ok u.pous
 reads bytes ts u d made le stands =
     let same = one_tokens bytes stands.tokens ts stands.made made in
     complete_unit limit ts u.pous d (subst (λ (l : List Token). ArePous l u.pous d) same stands.is) le
@@ -67,11 +67,11 @@ pub error_fails : (bytes : List ℕ) (ts : List Token) (e : TextError) → AreTe
 error_fails bytes ts e made h = error_places bytes ts e (pous limit ts) made refl h
 
 -- what was read from the tokens stands for the text
-pub found : (bytes : List ℕ) (ts : List Token) (ps : List PouText) → AreTextTokens bytes ts → pous limit ts ≡ Ok ps → (d : ℕ) × (d ≤ limit) × StandsFor bytes (record { pous = ps }) d
+pub found : (bytes : List ℕ) (ts : List Token) (ps : List PouText) → AreTextTokens bytes ts → pous limit ts ≡ Ok ps → (d : ℕ) × (d ≤ limit) × StandsForUnit bytes (record { pous = ps }) d
 found bytes ts ps made h = let s = pous_sound limit ts ps h in (s.0, s.1, record { tokens = ts; made = made; is = s.2 })
 
 -- a text stands for one unit at most
-pub one_text : (bytes : List ℕ) (u v : tree.Unit) (d c : ℕ) → StandsFor bytes u d → StandsFor bytes v c → u ≡ v
+pub one_text : (bytes : List ℕ) (u v : tree.Unit) (d c : ℕ) → StandsForUnit bytes u d → StandsForUnit bytes v c → u ≡ v
 one_text bytes u v d c a b =
     let same = one_tokens bytes b.tokens a.tokens b.made a.made in
     let first = complete_unit (max d c) a.tokens u.pous d a.is (omega arith) in

@@ -3,7 +3,7 @@ ghost use Rattle.plcx_lex.specs.Lexis.{spelt};
 ghost use Rattle.plcx_lex.specs.Terminal.{terminal};
 ghost use Rattle.plcx_st.specs.declared.tree.Unit as tree;
 ghost use Rattle.plcx_st.specs.Grammar.{limit};
-ghost use Rattle.plcx_st.specs.Stands.{StandsFor};
+ghost use Rattle.plcx_st.specs.Stands.{StandsForUnit};
 ghost use Rattle.plcx_read.specs.Fails.{IsRead, ReadFails};
 
 use crate::lexeme::Lexeme;
@@ -31,8 +31,8 @@ fn lexemes<'t>(
 
 /// The unit that a text is, or why it is none and where.
 pub fn read(alloc: Global, bytes: &[u8]) -> Result<Unit, TextError>
-    ensures found { IfOk result (λ unit. (d : ℕ) × (d ≤ limit) × StandsFor bytes.now unit d) }
-    ensures only { (unit : tree.Unit) (d : ℕ) → d ≤ limit → StandsFor bytes.now unit d → IsRead result unit }
+    ensures found { IfOk result (λ unit. (d : ℕ) × (d ≤ limit) × StandsForUnit bytes.now unit d) }
+    ensures only { (unit : tree.Unit) (d : ℕ) → d ≤ limit → StandsForUnit bytes.now unit d → IsRead result unit }
     ensures fails { MatchResult result (λ _. ⊤) (ReadFails bytes.now) }
 {
     let tokens = tokens(alloc, bytes)?;
@@ -43,5 +43,5 @@ pub fn read(alloc: Global, bytes: &[u8]) -> Result<Unit, TextError>
 
 /// A text stands for one unit at most.
 pub fn one_unit()
-    ensures { (bytes : List ℕ) (u v : tree.Unit) (d c : ℕ) → StandsFor bytes u d → StandsFor bytes v c → u ≡ v }
+    ensures { (bytes : List ℕ) (u v : tree.Unit) (d c : ℕ) → StandsForUnit bytes u d → StandsForUnit bytes v c → u ≡ v }
 {}

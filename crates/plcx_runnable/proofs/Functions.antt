@@ -9,6 +9,7 @@ use Rattle.plcx_types.specs.declared.fault.Fault.{Fault}
 use Rattle.plcx_types.specs.declared.fault.Fault.TheVariants as fault
 use Rattle.plcx_types.specs.declared.ty.Ty.{Ty}
 use Rattle.plcx_types.specs.declared.ty.Ty.TheVariants as ty
+use Rattle.plcx_types.specs.Range.{fits}
 use Rattle.plcx_types.specs.Value.{Value}
 use Rattle.plcx_types.proofs.TypeTable.{same_is}
 use Rattle.plcx_funcs.specs.declared.func.Func.{Func}
@@ -17,7 +18,7 @@ use Rattle.plcx_funcs.specs.declared.pins.Class.TheVariants as class
 use Rattle.plcx_funcs.specs.Pins as pins
 use Rattle.plcx_funcs.specs.Pins.{can_have, input_class, least_inputs}
 use Rattle.plcx_funcs.specs.Types.{is_bool}
-use Rattle.plcx_funcs.specs.Applied.{value, value_at, number_at, fits, checked, is_zero, after, folded, quotient, greater, lesser, best, chosen, narrows, width, converted, moved, shifted_left, shifted_right, rotated_left, rotated_right, applied, suits, FitsSignature}
+use Rattle.plcx_funcs.specs.Applied.{value, value_at, number_at, checked, is_zero, after, folded, quotient, greater, lesser, best, chosen, narrows, width, converted, moved, shifted_left, shifted_right, rotated_left, rotated_right, applied, suits, FitsSignature}
 use Rattle.plcx_meaning.specs.Functions.{all_suit, can_apply, out_type}
 use Rattle.plcx_meaning.proofs.FunctionValues.{types}
 use Rattle.plcx_steps.specs.Sound.{most_inputs}

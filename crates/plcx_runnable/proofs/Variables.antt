@@ -11,7 +11,7 @@ use Rattle.plcx_meaning.specs.Tree.{Class, Local, Input, Output, InOut, Temp}
 use Rattle.plcx_meaning.specs.Layout.{Variable, variables_of, variable_named, is_kept}
 use Rattle.plcx_meaning.specs.Diagram.{Pou, Project, DiagramElement}
 use Rattle.plcx_meaning.specs.Evaluate.{is_in_out, world_of}
-use Rattle.plcx_meaning.specs.Fits.{HasType, IsVariable, IsInstance, PouFits, PouNests, ProjectFits}
+use Rattle.plcx_meaning.specs.Fits.{IsDeclaredAs, IsVariable, IsInstance, PouFits, PouNests, ProjectFits}
 use Rattle.plcx_steps.specs.declared.program.Operand.TheVariants as operand
 use Rattle.plcx_steps.specs.Typed.{IsPlacedOf}
 use Rattle.plcx_numbered.specs.Numbers.{Place, places_of, number_of, in_out_names, first_leaf, leaf_count, numbering}
@@ -71,7 +71,7 @@ module _ (project : Project) (fits : ProjectFits project) (p : Pou) (one : PouFi
           (own_place project (distinct_of project fits) p one nests x h.variable t h.found h.typed (kept_class h.variable.class h.class (class_of_in_out h.variable (ap is_in_out (sym h.found) ∙ e))))
 
   -- and one within an instance
-  pub inner_typed : (i x : List ℕ) (within : List Variable) (t : Ty) → IsInstance (world_of project) (variables_of p.lists) i within → HasType within x t (λ class. is_kept class ≡ true)
+  pub inner_typed : (i x : List ℕ) (within : List Variable) (t : Ty) → IsInstance (world_of project) (variables_of p.lists) i within → IsDeclaredAs within x t (λ class. is_kept class ≡ true)
       → slice_get (types_of project p).leaves ((numbering project p es).inner i x) ≡ Some t
   inner_typed i x within t inst h =
       mapped_at (λ (y : Place). y.1) (places_of project (variables_of p.lists)) ((numbering project p es).inner i x) (in_lower_case x ∷ in_lower_case i ∷ [], t)

@@ -1,9 +1,10 @@
 -- What the form of a file gives to its draft.
 use Rattle.std.proofs.Common.{◌≡◌, ℕ, ◌≤◌, true, false, List, [], length}
 use Rattle.std.specs.List.{sum_by}
+use Rattle.plcx_types.specs.Address.{AddressFits}
 use Rattle.plcx_types.specs.Lists.{Each}
 use Rattle.plcx_types.specs.Limits.{max_variables}
-use Rattle.plcx_model.specs.Sound.{AddressSuits, BodyIsSound}
+use Rattle.plcx_model.specs.Sound.{BodyIsSound}
 use Rattle.plcx_model.specs.declared.project.PouKind.{PouKind}
 use Rattle.plcx_model.specs.declared.project.PouKind.TheVariants.{Program}
 use Rattle.plcx_model.specs.declared.project.ListClass.TheVariants.{InOut}
@@ -13,7 +14,7 @@ use Rattle.plcx_draft.specs.declared.draft.DraftList.{DraftList}
 use Rattle.plcx_draft.specs.declared.draft.DraftPou.{DraftPou}
 
 abbrev pub HasAddress : DraftVariable → Type 0
-HasAddress v = AddressSuits (nonempty v.address)
+HasAddress v = AddressFits (nonempty v.address)
 
 pub record FormedList (kind : PouKind) (list : DraftList) : Type 0 where
   pub addresses : Each HasAddress list.variables

@@ -7,10 +7,9 @@ use Rattle.std.proofs.lemmas.Bool.Decides.{nat_tests}
 use Rattle.std.proofs.lemmas.Slice.Eq.{bytes_eq-Decides}
 use Rattle.plcx_types.specs.Lists.{Each}
 use Rattle.plcx_types.proofs.Addresses.{form_is}
-use Rattle.plcx_types.specs.Address.{IsAddressForm}
+use Rattle.plcx_types.specs.Address.{IsAddressForm, AddressFits}
 use Rattle.plcx_types.specs.Name.{in_lower_case, in_upper_case}
 use Rattle.plcx_types.specs.ReadAddress.{is_address}
-use Rattle.plcx_model.specs.Sound.{AddressSuits}
 use Rattle.plcx_model.specs.declared.project.PouKind.{PouKind}
 use Rattle.plcx_model.specs.declared.project.PouKind.TheVariants.{Program}
 use Rattle.plcx_model.specs.declared.project.PouKind.TheVariants as kind
@@ -58,20 +57,20 @@ other_true false b is h = h
 not_empty : (n : ℕ) → nat_eq (suc n) 0 ≡ false
 not_empty n = grind (arith, nat_tests)
 
-upper_suits : (text : List ℕ) → (nat_eq (length text) 0 || is_address text) ≡ true → AddressSuits (nonempty (in_upper_case text))
+upper_suits : (text : List ℕ) → (nat_eq (length text) 0 || is_address text) ≡ true → AddressFits (nonempty (in_upper_case text))
 upper_suits [] h = tt
 upper_suits (b ∷ bs) h =
     let text = b ∷ bs in
     let form' = other_true (nat_eq (suc (length bs)) 0) (is_address text) (not_empty (length bs)) h in
     (subst IsAddressForm (sym (lower_upper text)) (form_is (in_lower_case text) form'), upper_upper text)
 
-values_suit : (values : List (List ℕ)) → is_bad false (has_form form.Address) (at_most_one values) ≡ false → AddressSuits (nonempty (in_upper_case (or_empty (first values))))
+values_suit : (values : List (List ℕ)) → is_bad false (has_form form.Address) (at_most_one values) ≡ false → AddressFits (nonempty (in_upper_case (or_empty (first values))))
 unfolding has_form
 values_suit [] h = tt
 values_suit (v ∷ []) h = upper_suits v (not_false (nat_eq (length v) 0 || is_address v) h)
 values_suit (v ∷ w ∷ more) h = absurd (cc)
 
-address_suits : (e : Element) → has_bad_field row.Variable e ≡ false → AddressSuits (nonempty (in_upper_case (attribute_of (codes "address") e)))
+address_suits : (e : Element) → has_bad_field row.Variable e ≡ false → AddressFits (nonempty (in_upper_case (attribute_of (codes "address") e)))
 unfolding has_bad_field attribute_of
 address_suits e h =
     let rest = or_false _ _ h in
@@ -95,7 +94,7 @@ variable_formed : (n : ℕ) (e : Element) (v : DraftVariable) (t : Taken) → va
 variable_formed n e v t is h =
     let named' = variable_named e v is in
     let good = good_here n (Read row.Variable) e (told_good row.VariableList (codes "variable") (Read row.Variable) variable_told n t e named'.0 h) in
-    subst (λ (a : List ℕ). AddressSuits (nonempty a)) (sym named'.1) (address_suits e good)
+    subst (λ (a : List ℕ). AddressFits (nonempty a)) (sym named'.1) (address_suits e good)
 
 variable_counts : (n : ℕ) (e : Element) (v : DraftVariable) (t : Taken) → variable_in e ≡ Some v → Good (items (suc n) (fate_of row.VariableList t e) e) → is_variable (fate_of row.VariableList t e) ≡ true
 variable_counts n e v t is h = ap is_variable (told_fate row.VariableList (codes "variable") (Read row.Variable) variable_told n t e (variable_named e v is).0 h)

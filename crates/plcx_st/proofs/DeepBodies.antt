@@ -7,6 +7,7 @@ use Rattle.plcx_types.specs.declared.ty.Ty.{Ty}
 use Rattle.plcx_funcs.specs.declared.func.Func.{Func}
 use Rattle.plcx_funcs.specs.declared.func.Func.TheVariants as func
 use Rattle.plcx_funcs.specs.Pins.{least_inputs, most_inputs, can_have}
+use Rattle.plcx_types.specs.Limits.{max_pin_connections}
 use Rattle.plcx_types.specs.Lists.{Each}
 use Rattle.plcx_meaning.specs.Base.{Memory, AtEdge}
 use Rattle.plcx_meaning.specs.Tree.{Operator, Or, Xor, And, Equal, NotEqual, Less, Greater, LessOrEqual, GreaterOrEqual, Plus, Minus, Times, Divide, Mod, Expression, Name, Member, Not, Binary, Argument, Statement, Assign, If, While, Case, statements, arms}
@@ -31,7 +32,7 @@ source_low t (Literal negated n) = not_if_low negated 1 (number t n) (number_low
 source_low t (Wire id pin) = weaker 1 2 (wire id pin) (omega arith) (name_low _)
 source_low t (Back id pin) = weaker 1 2 (source_text t (Back id pin)) (omega arith) (name_low _)
 
-link_low : (link : Link) → length link.others ≤ 63 → Low 67 (link_text link)
+link_low : (link : Link) → length (link.first ∷ link.others) ≤ max_pin_connections → Low 67 (link_text link)
 link_low link few =
     let count = length-map link.others (source_text link.ty) in
     not_if_low link.negated 66 _

@@ -6,6 +6,7 @@ use Rattle.std.proofs.lemmas.Bool.{cases_Bool}
 use Rattle.std.specs.Fmt.{decimal}
 use Rattle.std.specs.List.{flat_map}
 use Rattle.std.specs.Char.{to_ascii_lowercase}
+use Rattle.plcx_types.specs.Address.{AddressFits}
 use Rattle.plcx_types.specs.Name.{is_next_byte}
 use Rattle.plcx_types.specs.Printed as literal
 use Rattle.plcx_types.specs.Value.{Value}
@@ -14,7 +15,7 @@ use Rattle.plcx_lex.specs.Lexis.{IsToken}
 use Rattle.plcx_types.specs.Lists.{Each}
 use Rattle.plcx_meaning.specs.Tree.{PouKind, Program, FunctionBlock, Class, Local, Input, Output, InOut, Temp, Mark, Plain, Constant, Retain, Declaration, Block, Expression, Argument, Statement, Assign, Call, If, While, Case, Statements, no_statement, statement, Arms, no_arm, arm, PouText, statements}
 use Rattle.plcx_st.specs.Print.{Shape, shape, word, sign, name, in_brackets, expression_shapes, arguments_shapes, Line, line, ended, opening, closing, statement_lines, statements_lines, arms_lines, address_shapes, initial_shapes, declaration_line, class_word, mark_shapes, block_lines, pou_word, pou_end, pou_lines, unit_lines}
-use Rattle.plcx_st.specs.InRange.{IsWord, ExpressionInRange, ArgumentInRange, StatementInRange, StatementsInRange, ArmsInRange, AddressInRange, DeclarationInRange, BlockInRange, PouInRange}
+use Rattle.plcx_st.specs.InRange.{IsWord, ExpressionInRange, ArgumentInRange, StatementInRange, StatementsInRange, ArmsInRange, DeclarationInRange, BlockInRange, PouInRange}
 use Rattle.plcx_st.specs.Fitting.{ExpressionFits, ArgumentFits, StatementFits, StatementsFit, ArmsFit, InitialNumberFits, DeclarationFits, BlockFits, PouTextFits}
 use Rattle.plcx_st.proofs.Inside.{head, same_bytes, address_head}
 use Rattle.plcx_st.proofs.Literals.{number_token, number_head, label_token, label_head}
@@ -94,7 +95,7 @@ address_point text is = elim (cases_Bool (bytes_eq text (codes "."))) [
   | inr apart ↦ apart
 ]
 
-address_tail : (a : Option (List ℕ)) (ss : List Shape) → AddressInRange a → Tail ss → Tail (address_shapes a ++ ss)
+address_tail : (a : Option (List ℕ)) (ss : List Shape) → AddressFits a → Tail ss → Tail (address_shapes a ++ ss)
 address_tail None ss good t = t
 address_tail (Some text) ss good t = keyword (codes "AT") (shape kind.Address text ∷ ss) (refl, refl) refl
     (record { fine = plain good.0 (address_first text 40 good.0 refl) t.point t.fine; point = address_point text good.0 })

@@ -22,7 +22,7 @@ use Rattle.plcx_meaning.specs.Standard.{pin_blocks}
 use Rattle.plcx_meaning.specs.Diagram.{Port, ports, has_edge, DiagramElement, has_jump, is_program, Pou, Project, block_named}
 use Rattle.plcx_meaning.specs.Execute as text
 use Rattle.plcx_meaning.specs.Templates.{wire_name, memory_name, counter_name, own, element_memories, element_wires, counter, block, list_text, pou_text, unit_of}
-use Rattle.plcx_meaning.specs.Address.{AddressFits}
+use Rattle.plcx_types.specs.Address.{AddressFits}
 use Rattle.plcx_meaning.specs.Fits.{IsPin, PortsFit, project_knows, VariableFits, InOutsFit, PouFits, ProjectFits}
 use Rattle.plcx_meaning.specs.Ready.{PouIsReady}
 use Rattle.plcx_meaning.proofs.Fed.{fed_ports}
@@ -31,7 +31,7 @@ use Rattle.plcx_meaning.proofs.Lists.{each_at, each_append, each_map, each_flat_
 use Rattle.plcx_meaning.proofs.Enabling.{each_split}
 use Rattle.plcx_meaning.proofs.StaticsWorlds.{block_text, block_fits}
 use Rattle.plcx_meaning.proofs.ReadyUnits.{each_both, unit_ready}
-use Rattle.plcx_st.specs.InRange.{IsWord, DeclarationInRange, IsBare, FitsClass, BlockInRange, StatementsInRange, PouInRange, UnitInRange, AddressInRange}
+use Rattle.plcx_st.specs.InRange.{IsWord, DeclarationInRange, IsBare, FitsClass, BlockInRange, StatementsInRange, PouInRange, UnitInRange}
 use Rattle.plcx_st.specs.Fitting.{InitialNumberFits, DeclarationFits, BlockFits, StatementsFit, UnitFits}
 use Rattle.plcx_st.specs.Fitting as fitting
 use Rattle.plcx_st.specs.Depth.{pou_depth, printed_depth}
@@ -61,11 +61,6 @@ named_block type (p ∷ ps) q h = by (not (is_program p.kind) && bytes_eq (in_lo
         let same : p ≡ q = cc in
         subst (λ (r : Pou). in_lower_case type ≡ in_lower_case r.name) same (sym (bytes_same (in_lower_case p.name) (in_lower_case type) (and_parts (not (is_program p.kind)) (bytes_eq (in_lower_case p.name) (in_lower_case type)) e).1))
     by false e later k = later k
-
--- an address of the form is one token, in upper case
-address_range : (address : Option (List ℕ)) → AddressFits address → AddressInRange address
-address_range None h = tt
-address_range (Some text) h = h
 
 known_word : (project : Project) → Each (PouFits project) project → (type : List ℕ) → project_knows project type ≡ true → IsWord type
 known_word project all type known = by (type_named type) refl (kind_named type) refl (block_named type project) refl known
@@ -117,7 +112,7 @@ module _ (project : Project) (all : Each (PouFits project) project) where
   Declared class mark d = VariableFits project (variable class mark d)
 
   declaration_range : (class : Class) (mark : Mark) (d : Declaration) → Declared class mark d → AddressFits d.address → DeclarationInRange d
-  declaration_range class mark d fit address = (good_word d.name fit.name, address_range d.address address, known_word project all d.ty fit.known)
+  declaration_range class mark d fit address = (good_word d.name fit.name, address, known_word project all d.ty fit.known)
 
   class_fits : (kind : PouKind) (class : Class) (mark : Mark) (d : Declaration) (ds : List Declaration) → Declared class mark d → InOutsFit kind (record { class = class; mark = mark; declarations = d ∷ ds })
       → FitsClass class (record { class = class; mark = mark; declarations = d ∷ ds })

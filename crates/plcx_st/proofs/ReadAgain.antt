@@ -9,12 +9,12 @@ use Rattle.plcx_st.specs.InRange.{UnitInRange}
 use Rattle.plcx_st.specs.Fitting.{UnitFits}
 use Rattle.plcx_st.specs.Depth.{printed_depth}
 use Rattle.plcx_st.specs.Grammar.{limit}
-use Rattle.plcx_st.specs.Stands.{StandsFor}
+use Rattle.plcx_st.specs.Stands.{StandsForUnit}
 use Rattle.plcx_st.proofs.Lexed.{lexed_lines}
 use Rattle.plcx_st.proofs.FineUnits.{unit_fine}
 use Rattle.plcx_st.proofs.SpelledUnits.{spelled_unit}
 
-pub printed_again : (unit : List PouText) → UnitInRange unit → UnitFits unit → (v : tree.Unit) × (d : ℕ) × (d ≤ limit) × StandsFor (printed unit) v d × (meant v ≡ unit)
+pub printed_again : (unit : List PouText) → UnitInRange unit → UnitFits unit → (v : tree.Unit) × (d : ℕ) × (d ≤ limit) × StandsForUnit (printed unit) v d × (meant v ≡ unit)
 printed_again unit good fits =
     let l = lexed_lines (unit_lines unit) (unit_fine unit good.pous fits) in
     let tokens = tokens_from 0 (printed unit) l.pieces in

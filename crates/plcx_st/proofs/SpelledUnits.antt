@@ -21,13 +21,14 @@ use Rattle.plcx_st.specs.declared.tree.TextKind.{TextKind}
 use Rattle.plcx_st.specs.declared.tree.TextKind.TheVariants as kinds
 use Rattle.plcx_st.specs.declared.tree.TextBlock.{TextBlock}
 use Rattle.plcx_st.specs.declared.tree.PouText.{PouText}
+use Rattle.plcx_types.specs.Address.{AddressFits}
 use Rattle.plcx_lex.specs.Terminal.{terminal_of}
 use Rattle.plcx_st.specs.Grammar as grammar
 use Rattle.plcx_st.specs.Grammar.{IsAddress, IsInitial, IsDecl, IsBareDecl, IsMark, IsBlock, IsPou, ArePous, AreStmts, marked_class, heading, ending}
 use Rattle.plcx_st.specs.Meant.{number_meant, stmt_meant, decl_meant, class_meant, mark_meant, block_meant, kind_meant, pou_meant}
 use Rattle.plcx_st.specs.Print.{Shape, shape, word, sign, name, number, Line, line, ended, statements_lines, address_shapes, initial_shapes, declaration_line, class_word, mark_shapes, block_lines, pou_word, pou_end, pou_lines, unit_lines}
 use Rattle.plcx_st.specs.Depth.{pou_depth, printed_depth}
-use Rattle.plcx_st.specs.InRange.{AddressInRange, DeclarationInRange, IsBare, BlockInRange, PouInRange}
+use Rattle.plcx_st.specs.InRange.{DeclarationInRange, IsBare, BlockInRange, PouInRange}
 use Rattle.plcx_st.specs.Fitting.{InitialNumberFits, DeclarationFits, BlockFits, PouTextFits}
 use Rattle.plcx_st.proofs.Literals.{literal_printed}
 use Rattle.plcx_st.proofs.Lexed.{shapes_of}
@@ -41,7 +42,7 @@ record AddressOf (ts : List Token) (a : Option (List ℕ)) : Type 0 where
   stands : IsAddress ts value
   is : value ≡ a
 
-spelled_address : (a : Option (List ℕ)) (ts : List Token) → AddressInRange a → Shaped ts (address_shapes a) → AddressOf ts a
+spelled_address : (a : Option (List ℕ)) (ts : List Token) → AddressFits a → Shaped ts (address_shapes a) → AddressOf ts a
 spelled_address None ts good h = record { value = None; stands = subst (λ (z : List Token). IsAddress z None) (sym (empty ts h)) grammar.no_address; is = refl }
 spelled_address (Some text) ts good h =
     let at = word (codes "AT") in

@@ -1,8 +1,8 @@
 -- Which units have a printed form that reads as the same unit.
-use Rattle.std.specs.Prelude.{◌≡◌, ◌≤◌, ℕ, List, map, Option, Some, None}
-use Rattle.std.specs.Char.{to_ascii_uppercase}
+use Rattle.std.specs.Prelude.{◌≡◌, ◌≤◌, ℕ, List, None}
 use Rattle.plcx_lex.specs.Lexis.{IsToken}
 use Rattle.plcx_lex.specs.declared.token.TokenKind.TheVariants as kind
+use Rattle.plcx_types.specs.Address.{AddressFits}
 use Rattle.plcx_types.specs.Lists.{Each}
 use Rattle.plcx_meaning.specs.Tree.{Class, Local, Input, Output, InOut, Temp, Plain, Declaration, Block, Expression, Number, Name, Member, Apply, Not, Binary, Expressions, no_expression, expression, Argument, Statement, Assign, Call, If, While, Case, Statements, no_statement, statement, Arms, no_arm, arm, PouText, statements}
 use Rattle.plcx_st.specs.Depth.{printed_depth}
@@ -52,14 +52,9 @@ abbrev mutual
   ArmsInRange no_arm = Unit {0}
   ArmsInRange (arm label body arms) = StatementsInRange body × ArmsInRange arms
 
--- one address token in upper case
-abbrev pub AddressInRange : Option (List ℕ) → Type 0
-AddressInRange None = Unit {0}
-AddressInRange (Some address) = IsToken kind.Address address × (map to_ascii_uppercase address ≡ address)
-
 -- the name and the type are names, the address is one
 abbrev pub DeclarationInRange : Declaration → Type 0
-DeclarationInRange d = IsWord d.name × AddressInRange d.address × IsWord d.ty
+DeclarationInRange d = IsWord d.name × AddressFits d.address × IsWord d.ty
 
 -- a variable that is bound at each call has no place and no value of its own
 abbrev pub IsBare : Declaration → Type 0

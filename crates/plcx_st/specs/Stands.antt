@@ -5,7 +5,7 @@ use Rattle.plcx_lex.specs.Lexis.{AreTextTokens}
 use Rattle.plcx_st.specs.Grammar.{IsUnit}
 use Rattle.plcx_st.specs.declared.tree.Unit as tree
 
-pub record StandsFor (bytes : List ℕ) (unit : tree.Unit) (depth : ℕ) : Type 0 where
+pub record StandsForUnit (bytes : List ℕ) (unit : tree.Unit) (depth : ℕ) : Type 0 where
   pub tokens : List Token
   pub made : AreTextTokens bytes tokens
   pub is : IsUnit tokens unit depth

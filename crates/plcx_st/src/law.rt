@@ -7,10 +7,10 @@ ghost use Rattle.plcx_st.specs.Print.{printed};
 ghost use Rattle.plcx_st.specs.InRange.{UnitInRange};
 ghost use Rattle.plcx_st.specs.Fitting.{UnitFits};
 ghost use Rattle.plcx_st.specs.Grammar.{limit};
-ghost use Rattle.plcx_st.specs.Stands.{StandsFor};
+ghost use Rattle.plcx_st.specs.Stands.{StandsForUnit};
 
 /// The printed form of a unit in range stands for that unit, but for the places of its words.
 #[tactic(auto, using(crate::proofs::ReadAgain::printed_again))]
 pub fn read_again()
-    ensures { (unit : List PouText) → UnitInRange unit → UnitFits unit → (v : Unit) × (d : ℕ) × (d ≤ limit) × StandsFor (printed unit) v d × (meant v ≡ unit) }
+    ensures { (unit : List PouText) → UnitInRange unit → UnitFits unit → (v : Unit) × (d : ℕ) × (d ≤ limit) × StandsForUnit (printed unit) v d × (meant v ≡ unit) }
 {}

@@ -11,7 +11,7 @@ use Rattle.plcx_st.specs.declared.tree.Unit as tree
 use Rattle.plcx_st.specs.Grammar.{IsUnit, limit}
 use Rattle.plcx_st.specs.Meant.{meant}
 use Rattle.plcx_st.specs.Place.{Fault, Syntax, TooDeep, HasOnePlace, FineHasNone, start_of}
-use Rattle.plcx_st.specs.Stands.{StandsFor}
+use Rattle.plcx_st.specs.Stands.{StandsForUnit}
 use Rattle.plcx_read.specs.Fails.{IsFaultAt}
 use Rattle.plcx_conditions.specs.declared.broken.Broken as unit
 use Rattle.plcx_conditions.specs.Broken.{IsFirst}
@@ -39,7 +39,7 @@ module _
     (one_list : (bytes : List ℕ) (first second : List Token) → AreTextTokens bytes first → AreTextTokens bytes second → first ≡ second)
     (one_place : HasOnePlace limit)
     (no_place : FineHasNone limit)
-    (one_unit : (bytes : List ℕ) (u v : tree.Unit) (d c : ℕ) → StandsFor bytes u d → StandsFor bytes v c → u ≡ v)
+    (one_unit : (bytes : List ℕ) (u v : tree.Unit) (d c : ℕ) → StandsForUnit bytes u d → StandsForUnit bytes v c → u ≡ v)
     (one_first : (all : List unit.Broken) (b c : unit.Broken) → IsFirst all b → IsFirst all c → b ≡ c)
     (are_added : (u : tree.Unit) → bare (placed u) ≡ meant u)
     (ready_none : (ps : List Pou) → IsReady (bare ps) → broken_in ps ≡ [])
@@ -49,7 +49,7 @@ module _
         let same = one_place before rest before' rest' f g (one_list bytes (before ++ rest) (before' ++ rest') made made') is is' in
         (same.2, here ∙ ap (λ (ts : List Token). start_of ts (length bytes)) same.1 ∙ sym here')
 
-    fault_fine : (bytes : List ℕ) (f : Fault) (at : ℕ) (u : tree.Unit) (depth : ℕ) → IsFaultAt bytes f at → depth ≤ limit → StandsFor bytes u depth → ⊥
+    fault_fine : (bytes : List ℕ) (f : Fault) (at : ℕ) (u : tree.Unit) (depth : ℕ) → IsFaultAt bytes f at → depth ≤ limit → StandsForUnit bytes u depth → ⊥
     fault_fine bytes f at u depth (before, rest, made, is, here) le stands =
         no_place before rest f is (u, depth, le, subst (λ (ts : List Token). IsUnit ts u depth) (one_list bytes stands.tokens (before ++ rest) stands.made made) stands.is)
 

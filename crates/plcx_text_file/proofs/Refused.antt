@@ -5,7 +5,7 @@ use Rattle.plcx_lex.specs.declared.error.TextError.{TextError}
 use Rattle.plcx_lex.specs.declared.error.TextError.TheVariants as text
 use Rattle.plcx_st.specs.declared.tree.Unit as tree
 use Rattle.plcx_st.specs.Grammar.{limit}
-use Rattle.plcx_st.specs.Stands.{StandsFor}
+use Rattle.plcx_st.specs.Stands.{StandsForUnit}
 use Rattle.plcx_read.specs.Fails.{ReadFails}
 use Rattle.plcx_conditions.specs.declared.broken.Condition.{Condition}
 use Rattle.plcx_conditions.specs.declared.broken.Condition.TheVariants as condition
@@ -31,13 +31,13 @@ told_as condition.Types at = refl
 told_as condition.Recursion at = refl
 told_as condition.Literal at = refl
 
-first_told : (bytes : List ℕ) (u : tree.Unit) (depth : ℕ) (f : UnitFault) → depth ≤ limit → StandsFor bytes u depth → UnitBreaks u f → RefusesBytes bytes (of_unit f)
+first_told : (bytes : List ℕ) (u : tree.Unit) (depth : ℕ) (f : UnitFault) → depth ≤ limit → StandsForUnit bytes u depth → UnitBreaks u f → RefusesBytes bytes (of_unit f)
 first_told bytes u depth f le stands h =
     let b = h.first in
     subst (RefusesBytes bytes) (sym (ap of_unit h.named ∙ told_as b.condition b.at)) (in_unit u depth b le stands h.is_first)
 
 -- a unit that isn't ready
-pub refused_unit : (bytes : List ℕ) (u : tree.Unit) (depth : ℕ) (f : UnitFault) → depth ≤ limit → StandsFor bytes u depth → UnitRefuses u f → RefusesBytes bytes (of_unit f)
+pub refused_unit : (bytes : List ℕ) (u : tree.Unit) (depth : ℕ) (f : UnitFault) → depth ≤ limit → StandsForUnit bytes u depth → UnitRefuses u f → RefusesBytes bytes (of_unit f)
 refused_unit bytes u depth (fault.Name at) le stands h = first_told bytes u depth (fault.Name at) le stands h
 refused_unit bytes u depth (fault.WrongType at) le stands h = first_told bytes u depth (fault.WrongType at) le stands h
 refused_unit bytes u depth (fault.Recursion at) le stands h = first_told bytes u depth (fault.Recursion at) le stands h

@@ -7,7 +7,7 @@ use Rattle.plcx_st.specs.declared.tree.Unit as tree
 use Rattle.plcx_st.specs.Grammar.{limit}
 use Rattle.plcx_st.specs.Meant.{meant}
 use Rattle.plcx_st.specs.Place.{Syntax, TooDeep}
-use Rattle.plcx_st.specs.Stands.{StandsFor}
+use Rattle.plcx_st.specs.Stands.{StandsForUnit}
 use Rattle.plcx_read.specs.Fails.{IsFaultAt}
 use Rattle.plcx_conditions.specs.declared.broken.Broken as unit
 use Rattle.plcx_conditions.specs.declared.broken.Condition.{Condition}
@@ -34,7 +34,7 @@ rule_of condition.Literal = rule.Literal
 pub record Keeps (bytes : List ℕ) (u : tree.Unit) : Type 0 where
   pub depth : ℕ
   pub within : depth ≤ limit
-  pub stands : StandsFor bytes u depth
+  pub stands : StandsForUnit bytes u depth
   pub ready : IsReady (meant u)
 
 -- What bytes break first: they are not made of tokens, or the tokens are no unit, or none within the depth; or the unit breaks a condition.
@@ -42,7 +42,7 @@ pub data Breaks (bytes : List ℕ) : BrokenText → Type 0 where
   in_tokens : {at : ℕ} → IsLexPlace bytes at → Breaks bytes (broken rule.Lex at)
   in_syntax : {at : ℕ} → IsFaultAt bytes Syntax at → Breaks bytes (broken rule.Syntax at)
   in_depth : {at : ℕ} → IsFaultAt bytes TooDeep at → Breaks bytes (broken rule.Depth at)
-  in_unit : (u : tree.Unit) (depth : ℕ) (b : unit.Broken) → depth ≤ limit → StandsFor bytes u depth → IsFirst (broken_in (placed u)) b
+  in_unit : (u : tree.Unit) (depth : ℕ) (b : unit.Broken) → depth ≤ limit → StandsForUnit bytes u depth → IsFirst (broken_in (placed u)) b
       → Breaks bytes (broken (rule_of b.condition) b.at)
 
 -- A text of this unit, whose length is looked at first.

@@ -46,7 +46,7 @@ use Rattle.plcx_text_numbered.specs.Statements.{IsBoundTo}
 use Rattle.plcx_text_numbered.specs.Numbers.{places_of, leaf_number, temporary_values, place_found, place_by, numbering, operand_at, operand_in, bound_operand, plan_of}
 use Rattle.plcx_text_runnable.specs.Shapes.{types_of}
 use Rattle.plcx_text_runnable.proofs.Instances.{IsUserBlock, composed_block, block_known, within_place, parts_found}
-use Rattle.plcx_text_runnable.proofs.Places.{name_of, passed, passing_found, IsVariable, place_right, place_typed}
+use Rattle.plcx_text_runnable.proofs.Places.{name_of, passed, passing_found, IsElementary, place_right, place_typed}
 
 -- what a list has of all, one has
 all_pass : {A : Type 0} (test : A → Bool) (xs : List A) (x : A) → list_all test xs ≡ true → Contains xs x → test x ≡ true
@@ -127,7 +127,7 @@ module _ (unit : List PouText) (p : PouText) (one : PouIsReady unit p) where
   operand_bound : (e : Expression) (t : Ty) → BindingIsReady c e t → IsBoundTo (plan_of unit p).plan (operand_in num e) (λ site. leaf_in (setting c site) e)
   operand_bound (Name x) t h = by_place h.variable.class (class_binds h.variable h.passes) (num.place x) refl (variable_place c x t can_bind h) (place_right unit p one x t its)
     where
-      its : IsVariable (variable_named (in_lower_case x) vs) t
+      its : IsElementary (variable_named (in_lower_case x) vs) t
       its = record { variable = h.variable; found = h.found; typed = h.typed }
 
       At : Operand → Type 0
@@ -162,7 +162,7 @@ module _ (unit : List PouText) (p : PouText) (one : PouIsReady unit p) where
   operand_typed (Name x) t h =
       by_place h.variable.class (class_binds h.variable h.passes) (num.place x) refl (variable_place c x t can_bind h) (place_right unit p one x t its) (place_typed unit p one (temporary_values vs ++ []) [] refl x t its)
     where
-      its : IsVariable (variable_named (in_lower_case x) vs) t
+      its : IsElementary (variable_named (in_lower_case x) vs) t
       its = record { variable = h.variable; found = h.found; typed = h.typed }
 
       wires : List Value

@@ -123,7 +123,7 @@ passing_apart f (w ∷ vs) h = by_test (f w) (passing_apart f vs parts'.1)
 -- ---- what names mean
 
 -- a variable of an elementary type
-pub record IsVariable (o : Option Variable) (t : Ty) : Type 0 where
+pub record IsElementary (o : Option Variable) (t : Ty) : Type 0 where
   pub variable : Variable
   pub found : o ≡ Some variable
   pub typed : type_named variable.ty ≡ Some t
@@ -134,15 +134,15 @@ pub record IsInner (o : Option Variable) : Type 0 where
   pub found : o ≡ Some variable
   pub composite : type_named variable.ty ≡ None
 
-pub means : (world : World) (o : Option Variable) (t : Ty) → (h : IsVariable o t) → referent world o ≡ elementary h.variable.class t
+pub means : (world : World) (o : Option Variable) (t : Ty) → (h : IsElementary o t) → referent world o ≡ elementary h.variable.class t
 means world o t h = ap (referent world) h.found ∙ ap (λ m. referent_by (meant_by world h.variable.ty m) h.variable.class h.variable.ty) h.typed
 
 -- what can be read is a variable of a type
-pub variable_of : (world : World) (o : Option Variable) (t : Ty) → referent_type (referent world o) ≡ Some t → IsVariable o t
+pub variable_of : (world : World) (o : Option Variable) (t : Ty) → referent_type (referent world o) ≡ Some t → IsElementary o t
 variable_of world None t h = absurd (cc)
 variable_of world (Some v) t h = by_type (type_named v.ty) refl h
   where
-    by_type : (o : Option Ty) → type_named v.ty ≡ o → referent_type (referent_by (meant_by world v.ty o) v.class v.ty) ≡ Some t → IsVariable (Some v) t
+    by_type : (o : Option Ty) → type_named v.ty ≡ o → referent_type (referent_by (meant_by world v.ty o) v.class v.ty) ≡ Some t → IsElementary (Some v) t
     by_type (Some u) e k = let same : Some u ≡ Some t = sym (elementary_type v.class u) ∙ k in record { variable = v; found = refl; typed = e ∙ same }
     by_type None e k = absurd (cc)
 
@@ -157,7 +157,7 @@ inner_of world (Some v) key w h = by_type (type_named v.ty) refl h
 
 -- an output of a type
 pub record IsPart (o : Option Variable) (t : Ty) (class : Class) : Type 0 where
-  pub its : IsVariable o t
+  pub its : IsElementary o t
   pub class_is : its.variable.class ≡ class
 
 pub output_of : (world : World) (o : Option Variable) (t : Ty) → member_type world o ≡ Some t → IsPart o t Output
@@ -229,7 +229,7 @@ module _ (unit : List PouText) (p : PouText) (one : PouIsReady unit p) where
   leaf_typed x v t found typed kept = mapped_at (λ (y : Lying). y.1) (places_of unit vs) (leaf_number unit (in_lower_case x) vs) (in_lower_case x ∷ [], t) (own_place unit p one x v t found typed kept)
 
   -- the place of a name is that of its variable
-  pub place_right : (x : List ℕ) (t : Ty) → IsVariable (variable_named (in_lower_case x) vs) t → IsPlaceOf (plan_of unit p).plan x (referent world (variable_named (in_lower_case x) vs)) ((numbering unit p).place x)
+  pub place_right : (x : List ℕ) (t : Ty) → IsElementary (variable_named (in_lower_case x) vs) t → IsPlaceOf (plan_of unit p).plan x (referent world (variable_named (in_lower_case x) vs)) ((numbering unit p).place x)
   place_right x t h =
       subst (λ o. IsPlaceOf (plan_of unit p).plan x (referent world (variable_named (in_lower_case x) vs)) (place_found unit vs (in_lower_case x) o)) (sym h.found)
       (subst (λ r. IsPlaceOf (plan_of unit p).plan x r (place_by unit vs (in_lower_case x) h.variable.class)) (sym (means world (variable_named (in_lower_case x) vs) t h)) (by_class h.variable.class refl))
@@ -243,7 +243,7 @@ module _ (unit : List PouText) (p : PouText) (one : PouIsReady unit p) where
 
   -- and has its type
   module _ (wires spare : List Value) (are : wires ≡ temporary_values vs ++ spare) where
-    pub place_typed : (x : List ℕ) (t : Ty) → IsVariable (variable_named (in_lower_case x) vs) t → IsOf (types_of unit p) wires (place_source ((numbering unit p).place x)) t
+    pub place_typed : (x : List ℕ) (t : Ty) → IsElementary (variable_named (in_lower_case x) vs) t → IsOf (types_of unit p) wires (place_source ((numbering unit p).place x)) t
     place_typed x t h = subst (λ o. IsOf (types_of unit p) wires (place_source (place_found unit vs (in_lower_case x) o)) t) (sym h.found) (by_class h.variable.class refl)
       where
         by_class : (class : Class) → h.variable.class ≡ class → IsOf (types_of unit p) wires (place_source (place_by unit vs (in_lower_case x) class)) t
@@ -294,13 +294,13 @@ module _ (unit : List PouText) (p : PouText) (one : PouIsReady unit p) where
     abbrev inside : Option Variable
     inside = variable_named (in_lower_case x) (parts_of world (variable_named (in_lower_case i) vs))
 
-    inner_at : (h : IsVariable inside t) → is_kept h.variable.class ≡ true → slice_get (places_of unit vs) ((numbering unit p).inner i x) ≡ Some (in_lower_case x ∷ in_lower_case i ∷ [], t)
+    inner_at : (h : IsElementary inside t) → is_kept h.variable.class ≡ true → slice_get (places_of unit vs) ((numbering unit p).inner i x) ≡ Some (in_lower_case x ∷ in_lower_case i ∷ [], t)
     inner_at h kept =
         let v = inner_of world (variable_named (in_lower_case i) vs) (in_lower_case x) h.variable h.found in
         inner_place unit p one i x v.variable v.found v.composite h.variable t h.found h.typed kept
 
-    pub inner_right : (h : IsVariable inside t) → is_kept h.variable.class ≡ true → slice_get (plan_of unit p).plan.paths ((numbering unit p).inner i x) ≡ Some (in_lower_case x ∷ in_lower_case i ∷ [])
+    pub inner_right : (h : IsElementary inside t) → is_kept h.variable.class ≡ true → slice_get (plan_of unit p).plan.paths ((numbering unit p).inner i x) ≡ Some (in_lower_case x ∷ in_lower_case i ∷ [])
     inner_right h kept = mapped_at (λ (y : Lying). y.0) (places_of unit vs) ((numbering unit p).inner i x) (in_lower_case x ∷ in_lower_case i ∷ [], t) (inner_at h kept)
 
-    pub inner_typed : (h : IsVariable inside t) → is_kept h.variable.class ≡ true → slice_get (types_of unit p).leaves ((numbering unit p).inner i x) ≡ Some t
+    pub inner_typed : (h : IsElementary inside t) → is_kept h.variable.class ≡ true → slice_get (types_of unit p).leaves ((numbering unit p).inner i x) ≡ Some t
     inner_typed h kept = mapped_at (λ (y : Lying). y.1) (places_of unit vs) ((numbering unit p).inner i x) (in_lower_case x ∷ in_lower_case i ∷ [], t) (inner_at h kept)

@@ -41,7 +41,7 @@ use Rattle.plcx_text_numbered.specs.Texts.{IsExpressionOf, IsValueOf, IsAssignOf
 use Rattle.plcx_runnable.proofs.Lists.{mapped_at, mapped_from}
 use Rattle.plcx_text_runnable.proofs.Expressions.{mapped_some}
 use Rattle.plcx_text_runnable.proofs.Instances.{IsUserBlock, is_user, within_place, level_below, composed_block}
-use Rattle.plcx_text_runnable.proofs.Places.{IsVariable, variable_of, output_of, input_of, place_right, inner_right, first_frame, temporaries_apart}
+use Rattle.plcx_text_runnable.proofs.Places.{IsElementary, variable_of, output_of, input_of, place_right, inner_right, first_frame, temporaries_apart}
 use Rattle.plcx_text_runnable.proofs.Bindings.{IsInstanceOf, binding_leaf, binding_at}
 use Rattle.plcx_text_runnable.proofs.Grounds.{Ground, vs, world, scope, num, wires, owner, parts, called, IsCallee, callee, standard_place}
 

@@ -36,29 +36,29 @@ behind_is (w ∷ ws) (b ∷ bs) rest found = elim (cases_Bool (nat_eq b w)) [
 ]
 
 -- texts in any case
-folded_take : (n : ℕ) (text : List ℕ) → in_lower_case (take n text) ≡ take n (in_lower_case text)
-folded_take n text = sym (take-map to_ascii_lowercase n text)
+lower_take : (n : ℕ) (text : List ℕ) → in_lower_case (take n text) ≡ take n (in_lower_case text)
+lower_take n text = sym (take-map to_ascii_lowercase n text)
 
-folded_drop : (n : ℕ) (text : List ℕ) → in_lower_case (drop n text) ≡ drop n (in_lower_case text)
-folded_drop n text = sym (drop-map to_ascii_lowercase n text)
+lower_drop : (n : ℕ) (text : List ℕ) → in_lower_case (drop n text) ≡ drop n (in_lower_case text)
+lower_drop n text = sym (drop-map to_ascii_lowercase n text)
 
-folded_length : (text : List ℕ) → length (in_lower_case text) ≡ length text
-folded_length text = length-map text to_ascii_lowercase
+lower_length : (text : List ℕ) → length (in_lower_case text) ≡ length text
+lower_length text = length-map text to_ascii_lowercase
 
-pub folded_some : (word text front rest : List ℕ) → front ≡ take (length word) text → rest ≡ drop (length word) text → in_lower_case front ≡ in_lower_case word → behind (in_lower_case word) (in_lower_case text) ≡ Some (in_lower_case rest)
-folded_some word text front rest is_front is_rest same =
-    let n = folded_length word in
-    behind_some (in_lower_case word) (in_lower_case text) (rw n (sym (folded_take (length word) text) ∙ ap in_lower_case (sym is_front) ∙ same))
-    ∙ rw n (ap Some (sym (folded_drop (length word) text) ∙ ap in_lower_case (sym is_rest)))
+pub lower_some : (word text front rest : List ℕ) → front ≡ take (length word) text → rest ≡ drop (length word) text → in_lower_case front ≡ in_lower_case word → behind (in_lower_case word) (in_lower_case text) ≡ Some (in_lower_case rest)
+lower_some word text front rest is_front is_rest same =
+    let n = lower_length word in
+    behind_some (in_lower_case word) (in_lower_case text) (rw n (sym (lower_take (length word) text) ∙ ap in_lower_case (sym is_front) ∙ same))
+    ∙ rw n (ap Some (sym (lower_drop (length word) text) ∙ ap in_lower_case (sym is_rest)))
 
-pub folded_none : (word text front : List ℕ) → front ≡ take (length word) text → (in_lower_case front ≡ in_lower_case word → ⊥) → behind (in_lower_case word) (in_lower_case text) ≡ None
-folded_none word text front is_front other =
-    behind_none (in_lower_case word) (in_lower_case text) (λ same. other (ap in_lower_case is_front ∙ folded_take (length word) text ∙ (rw (folded_length word) at same)))
+pub lower_none : (word text front : List ℕ) → front ≡ take (length word) text → (in_lower_case front ≡ in_lower_case word → ⊥) → behind (in_lower_case word) (in_lower_case text) ≡ None
+lower_none word text front is_front other =
+    behind_none (in_lower_case word) (in_lower_case text) (λ same. other (ap in_lower_case is_front ∙ lower_take (length word) text ∙ (rw (lower_length word) at same)))
 
-pub folded_short : (word text : List ℕ) → length text < length word → behind (in_lower_case word) (in_lower_case text) ≡ None
-folded_short word text short =
-    behind_none (in_lower_case word) (in_lower_case text) (λ same. absurd (omega (arith, ap length same, length-take (length (in_lower_case word)) (in_lower_case text), folded_length word, folded_length text)))
+pub lower_short : (word text : List ℕ) → length text < length word → behind (in_lower_case word) (in_lower_case text) ≡ None
+lower_short word text short =
+    behind_none (in_lower_case word) (in_lower_case text) (λ same. absurd (omega (arith, ap length same, length-take (length (in_lower_case word)) (in_lower_case text), lower_length word, lower_length text)))
 
 -- a text from one of its bytes on
-pub folded_at : (text : List ℕ) (i : ℕ) → i < length text → in_lower_case (drop i text) ≡ to_ascii_lowercase (get_or text i 0) ∷ in_lower_case (drop (i + 1) text)
-folded_at text i within = rw (add-one, drop-cons text i 0 within)
+pub lower_at : (text : List ℕ) (i : ℕ) → i < length text → in_lower_case (drop i text) ≡ to_ascii_lowercase (get_or text i 0) ∷ in_lower_case (drop (i + 1) text)
+lower_at text i within = rw (add-one, drop-cons text i 0 within)

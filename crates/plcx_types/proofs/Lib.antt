@@ -1,4 +1,4 @@
-pub mod Folding
+pub mod Lowercase
 pub mod Parts
 pub mod BehindWord
 pub mod Splitting

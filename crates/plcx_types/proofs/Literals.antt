@@ -2,7 +2,7 @@
 use Rattle.std.proofs.Common.{◌≡◌, ◌⊎◌, ℕ, ℤ, pos, Bool, true, false, cond, inl, inr, List, [], ◌∷◌, ◌++◌, Option, Some, None, refl, ap, sym, ◌∙◌, subst}
 use Rattle.std.specs.Prelude.{codes}
 use Rattle.std.specs.List.{list_any}
-use Rattle.std.specs.Option.{option_map, option_and_then, ok_or}
+use Rattle.std.specs.Option.{option_or, option_map, option_and_then, ok_or}
 use Rattle.std.specs.Result.{IfErr}
 use Rattle.std.specs.Str.{bytes_eq}
 use Rattle.std.proofs.lemmas.Bool.{cases_Bool, both_ways, false_from_ne_true}
@@ -12,7 +12,7 @@ use Rattle.plcx_types.specs.declared.ty.Ty.TheVariants as ty
 use Rattle.plcx_types.specs.declared.literal.Literal.{Literal}
 use Rattle.plcx_types.specs.declared.literal.Literal.TheVariants.{Typed, Whole}
 use Rattle.plcx_types.specs.Name.{in_lower_case}
-use Rattle.plcx_types.specs.Range.{InRange}
+use Rattle.plcx_types.specs.Range.{InRange, fits}
 use Rattle.plcx_types.specs.Value.{Value}
 use Rattle.plcx_types.specs.TypeName.{same_ty, all_types}
 use Rattle.plcx_types.specs.Numeral.{are_digits, IsWholeNumber, plain, plus, minus, binary, octal, hexadecimal}
@@ -20,7 +20,7 @@ use Rattle.plcx_types.specs.Duration.{IsTime}
 use Rattle.plcx_types.specs.Literal.{value, type_word, IsTruth, IsNumber, IsForm, short_time, StandsForValue, IsValueOf}
 use Rattle.plcx_types.specs.Literal as form
 use Rattle.plcx_types.specs.Reading.{behind, choose, whole}
-use Rattle.plcx_types.specs.ReadLiteral.{is_within, truth, or_else, number_behind, of_type, typed, behind_name, typed_or_whole, timed_or_other, truth_or, literal_of, as_value, value_of}
+use Rattle.plcx_types.specs.ReadLiteral.{truth, number_behind, of_type, typed, behind_name, typed_or_whole, timed_or_other, truth_or, literal_of, as_value, value_of}
 use Rattle.plcx_types.proofs.BehindWord.{behind_is}
 use Rattle.plcx_types.proofs.Wholes.{chosen, mapped, is_foreign, behind_foreign, whole_reads, whole_is}
 use Rattle.plcx_types.proofs.Durations.{time_reads}
@@ -137,10 +137,10 @@ truth_is text n found = elim (cases_Bool (bytes_eq text (codes "true"))) [
   ]
 ]
 
-truth_or_whole : (text : List ℕ) (n : ℤ) → or_else (truth text) (whole text) ≡ Some n → IsNumber ty.Bool text n
+truth_or_whole : (text : List ℕ) (n : ℤ) → option_or (truth text) (whole text) ≡ Some n → IsNumber ty.Bool text n
 truth_or_whole text n found = go (truth text) refl found
   where
-    go : (r : Option ℤ) → truth text ≡ r → or_else r (whole text) ≡ Some n → IsNumber ty.Bool text n
+    go : (r : Option ℤ) → truth text ≡ r → option_or r (whole text) ≡ Some n → IsNumber ty.Bool text n
     go None is found = form.IsNumber.whole refl (whole_is text n found)
     go (Some m) is found = form.truth (truth_is text n (is ∙ found))
 
@@ -164,7 +164,7 @@ record IsTyped (t : Ty) (n : ℤ) (l : Literal) : Type 0 where
 
 of_type_is : (t : Ty) (n : ℤ) (l : Literal) → of_type t n ≡ Some l → IsTyped t n l
 unfolding of_type
-of_type_is t n l found = elim (cases_Bool (is_within t n)) [
+of_type_is t n l found = elim (cases_Bool (fits t n)) [
   | inl within ↦
       let same : Some (Typed (value t n)) ≡ Some l = rw within at found in
       let is : Typed (value t n) ≡ l = cc in
@@ -228,7 +228,7 @@ as_value_is t (Typed w) v found = elim (cases_Bool (same_ty w.ty t)) [
 ]
 as_value_is t (Whole n) v found = elim (cases_Bool (same_ty t ty.Time)) [
   | inl timed ↦ absurd (let none = rw timed at found in cc)
-  | inr other ↦ elim (cases_Bool (is_within t n)) [
+  | inr other ↦ elim (cases_Bool (fits t n)) [
     | inl within ↦ (other, within_range t n within, (let one : Some (value t n) ≡ Some v = rw (other, within) at found in cc))
     | inr outside ↦ absurd (let none = rw (other, outside) at found in cc)
   ]

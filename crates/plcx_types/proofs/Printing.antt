@@ -46,12 +46,12 @@ same_number n (c ∷ cs) h = rw (one_digit c h.0, same_value c h.0) (same_number
 lower_digit : (c : ℕ) → is_digit 10 c ≡ true → to_ascii_lowercase c ≡ c
 lower_digit c h = grind (arith, nat_tests)
 
-folded_digits : (ds : List ℕ) → list_all (is_digit 10) ds ≡ true → in_lower_case ds ≡ ds
-folded_digits [] h = refl
-folded_digits (c ∷ cs) h =
+lower_digits : (ds : List ℕ) → list_all (is_digit 10) ds ≡ true → in_lower_case ds ≡ ds
+lower_digits [] h = refl
+lower_digits (c ∷ cs) h =
     let parts = and_parts (is_digit 10 c) (list_all (is_digit 10) cs) h in
     let here = lower_digit c parts.0 in
-    let rest = folded_digits cs parts.1 in
+    let rest = lower_digits cs parts.1 in
     cc
 
 -- a number in decimal
@@ -79,9 +79,9 @@ signed_whole : (n : ℤ) → IsSmall n → IsWholeNumber (signed_decimal n) n
 signed_whole (pos n) small = plain (decimal_numeral n small)
 signed_whole (negsuc n) small = minus (decimal_numeral (suc n) small)
 
-folded_signed : (n : ℤ) → IsSmall n → in_lower_case (signed_decimal n) ≡ signed_decimal n
-folded_signed (pos n) small = folded_digits (decimal n) (is_decimal n small).are.all
-folded_signed (negsuc n) small = ap (λ ds. 45 ∷ ds) (folded_digits (decimal (suc n)) (is_decimal (suc n) small).are.all)
+lower_signed : (n : ℤ) → IsSmall n → in_lower_case (signed_decimal n) ≡ signed_decimal n
+lower_signed (pos n) small = lower_digits (decimal n) (is_decimal n small).are.all
+lower_signed (negsuc n) small = ap (λ ds. 45 ∷ ds) (lower_digits (decimal (suc n)) (is_decimal (suc n) small).are.all)
 
 in_milliseconds : (n : ℕ) → n < 10 ^ 20 → AreParts units (decimal n ++ codes "ms") n
 in_milliseconds n small =
@@ -142,13 +142,13 @@ lower_name ty.Time rest = refl
 named_stands : (t : Ty) (n : ℤ) → same_ty t ty.Time ≡ false → InRange t n → IsForm (in_lower_case (type_name t ++ (codes "#" ++ signed_decimal n))) (Typed (value t n))
 named_stands t n other range =
     let small = range_small t n range in
-    let lower : in_lower_case (type_name t ++ (codes "#" ++ signed_decimal n)) ≡ type_word t ++ (codes "#" ++ signed_decimal n) = lower_name t (signed_decimal n) ∙ ap (λ ds. type_word t ++ (codes "#" ++ ds)) (folded_signed n small) in
+    let lower : in_lower_case (type_name t ++ (codes "#" ++ signed_decimal n)) ≡ type_word t ++ (codes "#" ++ signed_decimal n) = lower_name t (signed_decimal n) ∙ ap (λ ds. type_word t ++ (codes "#" ++ ds)) (lower_signed n small) in
     subst (λ text. IsForm text (Typed (value t n))) (sym lower) (typed (form.IsNumber.whole other (signed_whole n small)) range)
 
 timed_stands : (n : ℤ) → InRange ty.Time n → IsForm (in_lower_case (codes "T#" ++ (signed_decimal n ++ codes "ms"))) (Typed (value ty.Time n))
 timed_stands n range =
     let small = range_small ty.Time n range in
-    let lower : in_lower_case (codes "T#" ++ (signed_decimal n ++ codes "ms")) ≡ codes "t#" ++ (signed_decimal n ++ codes "ms") = ap (λ ds. codes "t#" ++ ds) (map-append to_ascii_lowercase (signed_decimal n) (codes "ms") ∙ ap (λ ds. ds ++ codes "ms") (folded_signed n small)) in
+    let lower : in_lower_case (codes "T#" ++ (signed_decimal n ++ codes "ms")) ≡ codes "t#" ++ (signed_decimal n ++ codes "ms") = ap (λ ds. codes "t#" ++ ds) (map-append to_ascii_lowercase (signed_decimal n) (codes "ms") ∙ ap (λ ds. ds ++ codes "ms") (lower_signed n small)) in
     subst (λ text. IsForm text (Typed (value ty.Time n))) (sym lower) (short_time (signed_time n small) range)
 
 truth_stands : (n : ℤ) → InRange ty.Bool n → IsForm (in_lower_case (truth_word n)) (Typed (value ty.Bool n))

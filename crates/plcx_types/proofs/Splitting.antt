@@ -4,7 +4,7 @@ use Rattle.std.proofs.lemmas.List.{take_more, map-append, drop_all}
 use Rattle.std.specs.Char.{to_ascii_lowercase}
 use Rattle.plcx_types.specs.Name.{in_lower_case}
 use Rattle.plcx_types.specs.Reading.{front, back}
-use Rattle.plcx_types.proofs.BehindWord.{folded_at}
+use Rattle.plcx_types.proofs.BehindWord.{lower_at}
 
 -- so many bytes pass
 pub record Splits (passes : ℕ → Bool) (text : List ℕ) (i : ℕ) : Type 0 where
@@ -17,7 +17,7 @@ splits_none passes text = record { within = omega arith; fronts = refl; backs = 
 
 pub splits_more : (passes : ℕ → Bool) (text : List ℕ) (i : ℕ) → i < length text → passes (to_ascii_lowercase (get_or text i 0)) ≡ true → Splits passes text i → Splits passes text (i + 1)
 splits_more passes text i within passing splits =
-    let here = folded_at text i within in
+    let here = lower_at text i within in
     let fronts : front passes (in_lower_case (drop i text)) ≡ to_ascii_lowercase (get_or text i 0) ∷ front passes (in_lower_case (drop (i + 1) text)) = rw (here, passing) in
     let backs : back passes (in_lower_case (drop i text)) ≡ back passes (in_lower_case (drop (i + 1) text)) = rw (here, passing) in
     let taken : in_lower_case (take (i + 1) text) ≡ in_lower_case (take i text) ++ (to_ascii_lowercase (get_or text i 0) ∷ []) = ap in_lower_case (take_more text i 0 within) ∙ map-append to_ascii_lowercase (take i text) (get_or text i 0 ∷ []) in
@@ -34,7 +34,7 @@ pub record IsSplit (passes : ℕ → Bool) (text : List ℕ) (i : ℕ) : Type 0 
 
 pub split_at_byte : (passes : ℕ → Bool) (text : List ℕ) (i : ℕ) → i < length text → passes (to_ascii_lowercase (get_or text i 0)) ≡ false → Splits passes text i → IsSplit passes text i
 split_at_byte passes text i within failing splits =
-    let here = folded_at text i within in
+    let here = lower_at text i within in
     let fronts : front passes (in_lower_case (drop i text)) ≡ [] = rw (here, failing) in
     let backs : back passes (in_lower_case (drop i text)) ≡ in_lower_case (drop i text) = rw (here, failing) in
     record { fronts = sym (splits.fronts ∙ ap (λ xs. in_lower_case (take i text) ++ xs) fronts ∙ append-nil (in_lower_case (take i text))); backs = sym (splits.backs ∙ backs) }

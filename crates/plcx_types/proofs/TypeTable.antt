@@ -4,9 +4,8 @@ use Rattle.std.specs.Int.Signed.{le_z, le_z_yes}
 use Rattle.std.proofs.lemmas.Bool.{eqb-true, eq-eqb, and_parts, and_from}
 use Rattle.plcx_types.specs.declared.ty.Ty.{Ty}
 use Rattle.plcx_types.specs.declared.ty.Ty.TheVariants as ty
-use Rattle.plcx_types.specs.Range.{InRange, bounds_of}
+use Rattle.plcx_types.specs.Range.{InRange, bounds_of, fits}
 use Rattle.plcx_types.specs.TypeName.{all_types, position_of_type, same_ty, type_name, type_named}
-use Rattle.plcx_types.specs.ReadLiteral.{is_within}
 
 -- each type stands at its place
 pub at_its_place : (t : Ty) → get_or all_types (position_of_type t) ty.Bool ≡ t
@@ -51,12 +50,13 @@ held : (b : Bool) → T b → b ≡ true
 held true h = refl
 held false h = absurd h
 
-pub within_range : (t : Ty) (n : ℤ) → is_within t n ≡ true → InRange t n
+-- the test of a range as the range
+pub within_range : (t : Ty) (n : ℤ) → fits t n ≡ true → InRange t n
 within_range t n h =
     let parts = and_parts (le_z (bounds_of t).low n) (le_z n (bounds_of t).high) h in
     (le_z_yes (subst T (sym parts.0) tt), le_z_yes (subst T (sym parts.1) tt))
 
-pub range_within : (t : Ty) (n : ℤ) → InRange t n → is_within t n ≡ true
+pub range_within : (t : Ty) (n : ℤ) → InRange t n → fits t n ≡ true
 range_within t n h = and_from (le_z (bounds_of t).low n) (le_z n (bounds_of t).high) (held _ h.0.le) (held _ h.1.le)
 
 pub named_again : (t : Ty) → type_named (type_name t) ≡ Some t

@@ -1,5 +1,5 @@
 -- The form of an address: `%`, where it lies, perhaps how wide it is, and its numbers, as `%IX0.1`.
-use Rattle.std.specs.Prelude.{◌≡◌, ℕ, suc, Bool, true, nat_eq, List, ◌∷◌, ◌++◌, codes}
+use Rattle.std.specs.Prelude.{◌≡◌, ℕ, suc, Bool, true, nat_eq, List, ◌∷◌, ◌++◌, Option, Some, None, codes}
 use Rattle.std.specs.List.{list_any}
 use Rattle.plcx_types.specs.Duration.{AreDigits}
 use Rattle.plcx_types.specs.Name.{in_lower_case, in_upper_case}
@@ -26,3 +26,8 @@ IsAddress text = IsAddressForm (in_lower_case text)
 -- an address in upper case
 abbrev pub IsUpperAddress : List ℕ → Type 0
 IsUpperAddress text = IsAddress text × (in_upper_case text ≡ text)
+
+-- where there is an address, it is one in upper case
+abbrev pub AddressFits : Option (List ℕ) → Type 0
+AddressFits None = Unit {0}
+AddressFits (Some address) = IsUpperAddress address

@@ -5,12 +5,12 @@ use Rattle.plcx_types.specs.declared.ty.Ty.TheVariants as ty
 use Rattle.plcx_types.specs.declared.ty.Bounds.{Bounds}
 
 -- the numbers of so many bits
-abbrev pub unsigned : ℕ → Bounds
-unsigned bits = record { low = pos 0; high = pos (2 ^ bits - 1) }
+abbrev pub unsigned_bounds : ℕ → Bounds
+unsigned_bounds bits = record { low = pos 0; high = pos (2 ^ bits - 1) }
 
 -- the numbers of so many bits, of which one is the sign
-abbrev pub signed : ℕ → Bounds
-signed bits = record { low = negsuc (2 ^ (bits - 1) - 1); high = pos (2 ^ (bits - 1) - 1) }
+abbrev pub signed_bounds : ℕ → Bounds
+signed_bounds bits = record { low = negsuc (2 ^ (bits - 1) - 1); high = pos (2 ^ (bits - 1) - 1) }
 
 -- a row of the table: a name, how many bits a number takes, and the numbers there are
 pub record TypeRow : Type 0 where
@@ -25,17 +25,17 @@ row name bits numbers = record { name = name; bits = bits; bounds = numbers bits
 
 -- a TIME counts milliseconds
 abbrev pub row_of : Ty → TypeRow
-row_of ty.Bool = row (codes "BOOL") 1 unsigned
-row_of ty.Byte = row (codes "BYTE") 8 unsigned
-row_of ty.Word = row (codes "WORD") 16 unsigned
-row_of ty.Dword = row (codes "DWORD") 32 unsigned
-row_of ty.Lword = row (codes "LWORD") 64 unsigned
-row_of ty.Sint = row (codes "SINT") 8 signed
-row_of ty.Int = row (codes "INT") 16 signed
-row_of ty.Dint = row (codes "DINT") 32 signed
-row_of ty.Lint = row (codes "LINT") 64 signed
-row_of ty.Usint = row (codes "USINT") 8 unsigned
-row_of ty.Uint = row (codes "UINT") 16 unsigned
-row_of ty.Udint = row (codes "UDINT") 32 unsigned
-row_of ty.Ulint = row (codes "ULINT") 64 unsigned
-row_of ty.Time = row (codes "TIME") 64 signed
+row_of ty.Bool = row (codes "BOOL") 1 unsigned_bounds
+row_of ty.Byte = row (codes "BYTE") 8 unsigned_bounds
+row_of ty.Word = row (codes "WORD") 16 unsigned_bounds
+row_of ty.Dword = row (codes "DWORD") 32 unsigned_bounds
+row_of ty.Lword = row (codes "LWORD") 64 unsigned_bounds
+row_of ty.Sint = row (codes "SINT") 8 signed_bounds
+row_of ty.Int = row (codes "INT") 16 signed_bounds
+row_of ty.Dint = row (codes "DINT") 32 signed_bounds
+row_of ty.Lint = row (codes "LINT") 64 signed_bounds
+row_of ty.Usint = row (codes "USINT") 8 unsigned_bounds
+row_of ty.Uint = row (codes "UINT") 16 unsigned_bounds
+row_of ty.Udint = row (codes "UDINT") 32 unsigned_bounds
+row_of ty.Ulint = row (codes "ULINT") 64 unsigned_bounds
+row_of ty.Time = row (codes "TIME") 64 signed_bounds

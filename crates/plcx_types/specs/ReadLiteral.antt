@@ -1,39 +1,29 @@
 -- For proofs alone: what the reader of literals answers, over texts in lower case.
 use Rattle.std.specs.Prelude.{ℕ, ℤ, pos, Bool, ◌&&◌, ◌||◌, not, List, [], ◌∷◌, Option, Some, None, codes, if◌then◌else◌}
-use Rattle.std.specs.Int.Signed.{le_z}
-use Rattle.std.specs.Option.{option_map, option_and_then}
+use Rattle.std.specs.Option.{option_or, option_map, option_and_then}
 use Rattle.std.specs.Str.{bytes_eq}
 use Rattle.plcx_types.specs.declared.ty.Ty.{Ty}
 use Rattle.plcx_types.specs.declared.ty.Ty.TheVariants as ty
 use Rattle.plcx_types.specs.declared.literal.Literal.{Literal}
 use Rattle.plcx_types.specs.declared.literal.Literal.TheVariants.{Typed, Whole}
 use Rattle.plcx_types.specs.Name.{in_lower_case}
-use Rattle.plcx_types.specs.Range.{bounds_of}
+use Rattle.plcx_types.specs.Range.{fits}
 use Rattle.plcx_types.specs.Value.{Value}
 use Rattle.plcx_types.specs.TypeName.{same_ty, all_types}
 use Rattle.plcx_types.specs.Literal.{value, type_word}
 use Rattle.plcx_types.specs.Reading.{behind, choose, whole, time}
 
--- the number is one of the type
-abbrev pub is_within : Ty → ℤ → Bool
-is_within t n = le_z (bounds_of t).low n && le_z n (bounds_of t).high
-
 -- the number of a word of BOOL
 abbrev pub truth : List ℕ → Option ℤ
 truth text = if bytes_eq text (codes "true") then Some (pos 1) else (if bytes_eq text (codes "false") then Some (pos 0) else None)
 
--- the first, or else the second
-abbrev pub or_else : {A : Type 0} → Option A → Option A → Option A
-or_else None other = other
-or_else (Some x) other = Some x
-
 -- the number behind the name of a type
 unfoldable pub number_behind : Ty → List ℕ → Option ℤ
-number_behind t text = if same_ty t ty.Time then time text else (if same_ty t ty.Bool then or_else (truth text) (whole text) else whole text)
+number_behind t text = if same_ty t ty.Time then time text else (if same_ty t ty.Bool then option_or (truth text) (whole text) else whole text)
 
 -- a number of a type, where it is one
 unfoldable pub of_type : Ty → ℤ → Option Literal
-of_type t n = if is_within t n then Some (Typed (value t n)) else None
+of_type t n = if fits t n then Some (Typed (value t n)) else None
 
 -- a literal of a type by what stands behind its name
 abbrev pub typed : Ty → List ℕ → Option Literal
@@ -64,7 +54,7 @@ literal_of text = truth_or (truth text) (timed_or_other text)
 -- a literal as a value of a type, where it is one
 unfoldable pub as_value : Ty → Literal → Option Value
 as_value t (Typed v) = if same_ty v.ty t then Some v else None
-as_value t (Whole n) = if same_ty t ty.Time || not (is_within t n) then None else Some (value t n)
+as_value t (Whole n) = if same_ty t ty.Time || not (fits t n) then None else Some (value t n)
 
 -- the value of a type that a text stands for, in any case
 abbrev pub value_of : Ty → List ℕ → Option Value

@@ -1,6 +1,6 @@
 //! Values: each a number of its type.
 ghost use Rattle.std.specs.Prelude.{◌≡◌, ◌↔◌, pos, IsTrue, IfSome, IfNone, Some, None, if◌then◌else◌};
-ghost use Rattle.plcx_types.specs.Range.{InRange};
+ghost use Rattle.plcx_types.specs.Range.{InRange, fits};
 ghost use Rattle.plcx_types.specs.TypeName.{same_ty};
 
 use crate::ty::{Bounds, Ty};
@@ -37,7 +37,8 @@ impl Model for Val {
 
 /// Whether the number is one of the type.
 pub fn in_range(ty: Ty, n: i128) -> bool
-    ensures { IsTrue result ↔ InRange ty n }
+    ensures range { IsTrue result ↔ InRange ty n }
+    ensures value { result ≡ fits ty n }
 {
     let Bounds { low, high } = ty.bounds();
     low <= n && n <= high

@@ -12,8 +12,7 @@ use Rattle.std.specs.Int.Signed.{le_z}
 use Rattle.std.proofs.lemmas.Int.{ints}
 use Rattle.plcx_types.specs.declared.ty.Ty.{Ty}
 use Rattle.plcx_types.specs.declared.ty.Ty.TheVariants as ty
-use Rattle.plcx_types.specs.Range.{bounds_of, InRange}
-use Rattle.plcx_types.specs.ReadLiteral.{is_within}
+use Rattle.plcx_types.specs.Range.{bounds_of, InRange, fits}
 use Rattle.plcx_types.specs.TypeName.{same_ty, position_of_type, all_types}
 use Rattle.plcx_funcs.specs.declared.allowed.Allowed.{Allowed}
 use Rattle.plcx_funcs.specs.declared.pins.Class.{Class}
@@ -366,14 +365,14 @@ module _ (s : Sheet) (marks : List Bool) (are : AreMarks s marks) where
   abbrev pub NumberFault : ℕ → Gives → Type 0
   NumberFault i g = (n : ℤ) × (g ≡ Untyped n) × ((t : Ty) × (TakenAt s i (pin_at s i).class t × (InRange t n → ⊥)))
 
-  within_decides : (t : Ty) (n : ℤ) → Decides (is_within t n) (InRange t n)
+  within_decides : (t : Ty) (n : ℤ) → Decides (fits t n) (InRange t n)
   within_decides t n = Decides-and (le_z (bounds_of t).low n) (le_z n (bounds_of t).high) (z_decides (bounds_of t).low n) (z_decides n (bounds_of t).high)
 
   number_decides : (i : ℕ) (g : Gives) → i < length s.pins → Decides (number_outside s marks (pin_at s i) (sources_at s i) g) (NumberFault i g)
   number_decides i (Untyped n) low =
       let has = taken_has s marks (pin_at s i) (sources_at s i) in
-      Decides-like (list_any (λ t. has t && not (is_within t n)) all_types) (λ h. (n, refl, h)) (λ h. let e : n ≡ h.0 = (let f = h.1 in cc) in (h.2.0, (h.2.1.0, (λ r. h.2.1.1 (subst (InRange h.2.0) e r)))))
-      (any_type (λ t. has t && not (is_within t n)) (λ t. TakenAt s i (pin_at s i).class t × (InRange t n → ⊥)) (λ t. Decides-and (has t) (not (is_within t n)) (taken_decides i t low) (Decides-not (is_within t n) (within_decides t n))))
+      Decides-like (list_any (λ t. has t && not (fits t n)) all_types) (λ h. (n, refl, h)) (λ h. let e : n ≡ h.0 = (let f = h.1 in cc) in (h.2.0, (h.2.1.0, (λ r. h.2.1.1 (subst (InRange h.2.0) e r)))))
+      (any_type (λ t. has t && not (fits t n)) (λ t. TakenAt s i (pin_at s i).class t × (InRange t n → ⊥)) (λ t. Decides-and (has t) (not (fits t n)) (taken_decides i t low) (Decides-not (fits t n) (within_decides t n))))
   number_decides i (Typed t) low = never (λ h. let f = h.1 in absurd (cc))
   number_decides i Grouped low = never (λ h. let f = h.1 in absurd (cc))
   number_decides i Nothing low = never (λ h. let f = h.1 in absurd (cc))

@@ -5,7 +5,7 @@ use Rattle.std.specs.List.{list_any}
 use Rattle.plcx_types.specs.declared.ty.Ty.{Ty}
 use Rattle.plcx_types.specs.declared.ty.Ty.TheVariants as ty
 use Rattle.plcx_types.specs.TypeName.{same_ty, all_types}
-use Rattle.plcx_types.specs.ReadLiteral.{is_within}
+use Rattle.plcx_types.specs.Range.{fits}
 use Rattle.plcx_funcs.specs.Types.{is_allowed, is_whole, is_bool, is_time}
 use Rattle.plcx_funcs.specs.declared.pins.Class.{Class}
 use Rattle.plcx_funcs.specs.declared.pins.Class.TheVariants as class
@@ -127,7 +127,7 @@ abbrev pub literal_disagrees : Sheet → List Bool → Pin → List Source → �
 literal_disagrees s marks p sources e = (output_at s (only e)).negated && list_any (λ t. taken_has s marks p sources t && not (is_bool t)) all_types
 
 abbrev pub number_outside : Sheet → List Bool → Pin → List Source → Gives → Bool
-number_outside s marks p sources (Untyped n) = list_any (λ t. taken_has s marks p sources t && not (is_within t n)) all_types
+number_outside s marks p sources (Untyped n) = list_any (λ t. taken_has s marks p sources t && not (fits t n)) all_types
 number_outside s marks p sources (Typed t) = false
 number_outside s marks p sources Grouped = false
 number_outside s marks p sources Nothing = false

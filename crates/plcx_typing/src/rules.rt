@@ -2,7 +2,7 @@
 ghost use Rattle.std.specs.Prelude.{◌≡◌, [], not, ◌&&◌};
 ghost use Rattle.std.specs.List.{list_any};
 ghost use Rattle.plcx_types.specs.TypeName.{same_ty};
-ghost use Rattle.plcx_types.specs.ReadLiteral.{is_within};
+ghost use Rattle.plcx_types.specs.Range.{fits};
 ghost use Rattle.plcx_funcs.specs.Types.{is_bool, is_time};
 ghost use Rattle.plcx_rules.specs.Types.{gives_at};
 ghost use Rattle.plcx_typing.specs.Closure.{is_marked};
@@ -14,7 +14,7 @@ use crate::outputs::{is_untyped, output_at};
 use plcx_funcs::{Allowed, Class};
 use plcx_model::Source;
 use plcx_rules::{Form, Gives, Grouping, Out, Outputs, Pin};
-use plcx_types::{ALL_TYPES, Bounds, Ty};
+use plcx_types::{ALL_TYPES, Ty, in_range};
 
 fn same_ty(left: Ty, right: Ty) -> bool
     ensures { result ≡ same_ty left right }
@@ -32,13 +32,6 @@ fn is_time(ty: Ty) -> bool
     ensures { result ≡ is_time ty }
 {
     matches!(ty, Ty::Time)
-}
-
-fn is_within(ty: Ty, n: i128) -> bool
-    ensures { result ≡ is_within ty n }
-{
-    let Bounds { low, high } = ty.bounds();
-    low <= n && n <= high
 }
 
 fn is_marked(marks: &[bool], element: u32, ty: Ty) -> bool
@@ -296,9 +289,9 @@ fn takes_outside_among(
     sources: &[Source],
     n: i128,
 ) -> bool
-    ensures { result ≡ list_any (λ t. taken_has (sheet forms.now [] []) marks.now pin sources.now t && not (is_within t n)) types.now }
+    ensures { result ≡ list_any (λ t. taken_has (sheet forms.now [] []) marks.now pin sources.now t && not (fits t n)) types.now }
 {
-    types.iter().any(|ty| taken_has(forms, marks, pin, sources, *ty) && !is_within(*ty, n))
+    types.iter().any(|ty| taken_has(forms, marks, pin, sources, *ty) && !in_range(*ty, n))
 }
 
 /// The inVariable's number is outside a type that it takes at the pin.

@@ -1,6 +1,5 @@
 //! What is found of values, literals and names.
 ghost use Rattle.std.specs.Prelude.{◌≡◌, List, option_map, None, Some};
-ghost use Rattle.plcx_funcs.specs.Applied.{fits};
 ghost use Rattle.plcx_meaning.specs.Tree.{PouText};
 ghost use Rattle.plcx_meaning.specs.Layout.{is_constant};
 ghost use Rattle.plcx_st.specs.Meant.{mark_meant};
@@ -19,7 +18,7 @@ use crate::first::broken_if;
 use plcx_conditions::{Broken, Condition};
 use plcx_known::{Seen, VarType};
 use plcx_st::{Mark, Number, TextClass};
-use plcx_types::Ty;
+use plcx_types::{Ty, in_range};
 
 /// What is found of an expression: what comes first of all that is broken in it, its type, and the byte where its first
 /// token begins that is no opening bracket.
@@ -37,18 +36,11 @@ pub(crate) struct Listed {
     pub types: Option<Vec<Ty>>,
 }
 
-fn fits(ty: Ty, n: i128) -> bool
-    ensures { result ≡ fits ty n }
-{
-    let bounds = ty.bounds();
-    bounds.low <= n && n <= bounds.high
-}
-
 /// The condition on a literal.
 pub(crate) fn literal_broken(n: &Number) -> Option<Broken>
     ensures { result ≡ first_of (broken_in_literal (placed_number n.now)) }
 {
-    broken_if(!fits(n.ty, n.n), Condition::Literal, n.span.start)
+    broken_if(!in_range(n.ty, n.n), Condition::Literal, n.span.start)
 }
 
 /// Whether an instance has the type.

@@ -7,7 +7,7 @@ use Rattle.plcx_st.specs.declared.tree.Unit as tree
 use Rattle.plcx_st.specs.Meant.{meant}
 use Rattle.plcx_st.specs.Print.{printed}
 use Rattle.plcx_st.specs.Grammar.{limit}
-use Rattle.plcx_st.specs.Stands.{StandsFor}
+use Rattle.plcx_st.specs.Stands.{StandsForUnit}
 use Rattle.plcx_read.specs.Fails.{IsRead}
 use Rattle.plcx_read.proofs.printed.read_printed.Goals as goal
 
@@ -28,9 +28,9 @@ record Again (bytes : List ℕ) (r : Result tree.Unit TextError) (unit : List Po
   is : IsRead r value
   same : meant value ≡ unit
 
-again : (bytes : List ℕ) (r : Result tree.Unit TextError) (unit : List PouText) → bytes ≡ printed unit → ((v : tree.Unit) (d : ℕ) → d ≤ limit → StandsFor bytes v d → IsRead r v)
-    → ((v : tree.Unit) × (d : ℕ) × (d ≤ limit) × StandsFor (printed unit) v d × (meant v ≡ unit)) → Again bytes r unit
-again bytes r unit e only p = record { value = p.0; is = only p.0 p.1 p.2 (subst (λ (b : List ℕ). StandsFor b p.0 p.1) (sym e) p.3); same = p.4 }
+again : (bytes : List ℕ) (r : Result tree.Unit TextError) (unit : List PouText) → bytes ≡ printed unit → ((v : tree.Unit) (d : ℕ) → d ≤ limit → StandsForUnit bytes v d → IsRead r v)
+    → ((v : tree.Unit) × (d : ℕ) × (d ≤ limit) × StandsForUnit (printed unit) v d × (meant v ≡ unit)) → Again bytes r unit
+again bytes r unit e only p = record { value = p.0; is = only p.0 p.1 p.2 (subst (λ (b : List ℕ). StandsForUnit b p.0 p.1) (sym e) p.3); same = p.4 }
 
 pub returns-clause-same : goal.returns-clause-same
 returns-clause-same c = λ good fits.
