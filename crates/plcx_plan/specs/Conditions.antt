@@ -3,6 +3,7 @@ use Rattle.std.specs.Prelude.{◌≡◌, ◌≤◌, ◌<◌, ℕ, pos, Bool, tru
 use Rattle.std.specs.List.{flat_map, position_from}
 use Rattle.std.specs.Option.{option_and_then}
 use Rattle.std.specs.Str.{bytes_eq}
+use Rattle.plcx_types.specs.Limits.{max_tasks, max_instances}
 use Rattle.plcx_types.specs.Name.{in_lower_case}
 use Rattle.plcx_xml.specs.declared.tree.Element.{Element}
 use Rattle.plcx_model.specs.declared.project.PouKind.{PouKind}
@@ -19,13 +20,6 @@ use Rattle.plcx_plan.specs.declared.condition.TaskKind.TheVariants as kind
 use Rattle.plcx_plan.specs.Attributes.{value_once, IsNamed, is_taken}
 use Rattle.plcx_plan.specs.Intervals.{IsInterval}
 use Rattle.plcx_plan.specs.Items.{Item, elements, has_instance}
-
--- the tasks and the instances of a resource
-abbrev pub max_tasks : ℕ
-max_tasks = 64
-
-abbrev pub max_instances : ℕ
-max_instances = 16
 
 -- the greatest priority
 abbrev pub max_priority : ℕ

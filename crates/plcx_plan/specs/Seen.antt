@@ -1,6 +1,7 @@
 -- For proofs alone: what is read so far, and what a step over an item makes of it.
 use Rattle.std.specs.Prelude.{◌≡◌, ◌≤◌, ℕ, Bool, true, ◌||◌, ◌&&◌, not, nat_lt, List, [], ◌∷◌, ◌++◌, length, Option, Some, None}
 use Rattle.std.specs.List.{AllZip}
+use Rattle.plcx_types.specs.Limits.{max_tasks, max_instances}
 use Rattle.plcx_model.specs.declared.project.Project.{Project}
 use Rattle.plcx_table.specs.Walk.{start_of}
 use Rattle.plcx_tasks.specs.declared.planning.Task.{Task}
@@ -60,8 +61,8 @@ Steps project all x old after fault = (before rest : List Item) → IsRead proje
 
 -- no more tasks and instances than there may be
 pub record IsFew (p : Progress) : Type 0 where
-  pub tasks : length p.tasks.items ≤ 64
-  pub instances : length p.instances.items ≤ 16
+  pub tasks : length p.tasks.items ≤ max_tasks
+  pub instances : length p.instances.items ≤ max_instances
 
 -- items in which no condition fails have this plan
 pub record IsPlanIn (project : Project) (items : List Item) (plan : TaskPlan) : Type 0 where

@@ -15,14 +15,11 @@ use crate::names::note;
 use crate::programs::{Programs, program_of};
 use crate::walk::Looked;
 use plcx_tasks::{Instance, Task};
+use plcx_types::limits::{MAX_INSTANCES, MAX_TASKS};
 use plcx_types::{Ident, IdentError, NoMemory};
 use plcx_xml::Element;
 use std::alloc::Global;
 use std::collections::HashSet;
-
-const MAX_TASKS: usize = 64;
-
-const MAX_INSTANCES: usize = 16;
 
 /// What is read of the tasks of a file so far.
 #[derive(Drop)]

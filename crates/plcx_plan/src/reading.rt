@@ -1,6 +1,7 @@
 //! Reading the plan of a file's tasks.
 ghost use Rattle.std.specs.Prelude.{◌≡◌, ◌≤◌, [], map, length, true, false, None, IfOk, MatchResult};
 ghost use Rattle.std.specs.List.{AllPairs};
+ghost use Rattle.plcx_types.specs.Limits.{max_instances};
 ghost use Rattle.plcx_types.specs.Lists.{Each};
 ghost use Rattle.plcx_xml.specs.declared.tree.Node.{out-Node};
 ghost use Rattle.plcx_tasks.specs.Orders.{IsPlan};
@@ -24,7 +25,7 @@ use std::collections::HashSet;
 fn plan_in(alloc: Global, project: &Project, items: &[Looked]) -> Result<TaskPlan, TaskError>
     requires led { are_led false (map shown items.now) ≡ true }
     ensures plan { MatchResult result (IsPlanIn project.now (map shown items.now)) (RefusesIn project.now (map shown items.now)) }
-    ensures few { IfOk result (λ plan. length plan.instances ≤ 16) }
+    ensures few { IfOk result (λ plan. length plan.instances ≤ max_instances) }
 {
     let programs = Programs::of(alloc, project.pous())?;
     let mut progress = Progress {
@@ -55,7 +56,7 @@ fn plan_in(alloc: Global, project: &Project, items: &[Looked]) -> Result<TaskPla
 
 fn plan_of(alloc: Global, root: &Element, project: &Project) -> Result<TaskPlan, TaskError>
     ensures plan { MatchResult result (IsPlanOf root.now project.now) (RefusesElement root.now project.now) }
-    ensures few { IfOk result (λ plan. length plan.instances ≤ 16) }
+    ensures few { IfOk result (λ plan. length plan.instances ≤ max_instances) }
 {
     let items = items_in(alloc, root)?;
     Ok(plan_in(alloc, project, &items)?)

@@ -57,6 +57,14 @@ max_parts = 2 ^ 21
 abbrev pub max_text_leaves : ℕ
 max_text_leaves = 2 ^ 23
 
+-- the tasks of a resource
+abbrev pub max_tasks : ℕ
+max_tasks = 64
+
+-- the instances of programs of a resource
+abbrev pub max_instances : ℕ
+max_instances = 16
+
 -- the bytes of a name
 abbrev pub max_name_bytes : ℕ
 max_name_bytes = 128

@@ -2,7 +2,7 @@
 ghost use Rattle.std.specs.Prelude.{◌≡◌, pos};
 ghost use Rattle.plcx_types.specs.Limits.{max_file_bytes, max_text_bytes, max_name_bytes, max_declared_name_bytes, max_element_depth, max_text_depth};
 ghost use Rattle.plcx_types.specs.Limits.{max_pous, max_variables, max_elements, max_connections, max_pin_connections, max_pins};
-ghost use Rattle.plcx_types.specs.Limits.{max_instance_chain, max_leaves, max_parts, max_text_leaves, max_event_time};
+ghost use Rattle.plcx_types.specs.Limits.{max_instance_chain, max_leaves, max_parts, max_text_leaves, max_tasks, max_instances, max_event_time};
 
 /// The bytes of a project's file, of a file of events and of a retained file.
 pub const MAX_FILE_BYTES: u64 = 16 * 1024 * 1024;
@@ -52,6 +52,12 @@ pub const MAX_PARTS: usize = 2_097_152;
 /// The leaves and instances of a POU of a text.
 pub const MAX_TEXT_LEAVES: usize = 8_388_608;
 
+/// The tasks of a resource.
+pub const MAX_TASKS: usize = 64;
+
+/// The instances of programs of a resource.
+pub const MAX_INSTANCES: usize = 16;
+
 /// The time of an event, in milliseconds.
 pub const MAX_EVENT_TIME: i64 = 4_611_686_018_427_387_904;
 
@@ -75,11 +81,13 @@ pub fn limits_of_projects()
     ensures pins { MAX_PINS ≡ max_pins }
 {}
 
-/// What a POU grows to, and how late an event is: the constants are those of the definitions.
+/// What a POU grows to, what a resource has, and how late an event is: the constants are those of the definitions.
 pub fn limits_of_runs()
     ensures chain { MAX_INSTANCE_CHAIN ≡ max_instance_chain }
     ensures leaves { MAX_LEAVES ≡ max_leaves }
     ensures parts { MAX_PARTS ≡ max_parts }
     ensures text_leaves { MAX_TEXT_LEAVES ≡ max_text_leaves }
+    ensures tasks { MAX_TASKS ≡ max_tasks }
+    ensures instances { MAX_INSTANCES ≡ max_instances }
     ensures time { MAX_EVENT_TIME ≡ pos max_event_time }
 {}
