@@ -2,7 +2,7 @@ ghost use Rattle.std.specs.Prelude.{◌≡◌};
 ghost use Rattle.plcx_read.specs.Reading as spec;
 ghost use Rattle.plcx_read.specs.Gives.{Gives};
 
-use crate::lexeme::Lexeme;
+use crate::lexemes::Lexemes;
 use crate::lists::several_parts;
 use crate::token::{Part, behind, expect, literal_at, name_at, next, same, sees, unexpected};
 use plcx_st::{Decl, Mark, Number, Terminal, TextBlock, TextClass};
@@ -10,16 +10,12 @@ use sqlite_items::Items;
 use std::alloc::Global;
 
 #[tactic(auto, unfolding(crate::specs::Reading::address_token))]
-fn address_token<'t>(
-    alloc: Global,
-    end: u64,
-    tokens: &'t [Lexeme<'t>],
-) -> Part<'t, Option<Items<u8>>>
-    ensures { Gives end (λ x. (x.0, 0, x.1.now)) result (spec.address_token tokens.now) }
+fn address_token<'t>(alloc: Global, end: u64, tokens: &Lexemes<'t>) -> Part<'t, Option<Items<u8>>>
+    ensures { Gives end (λ x. (x.0, 0, x.1)) result (spec.address_token tokens.now) }
 {
-    match tokens {
-        [] => Err(unexpected(end, tokens)),
-        [x, rest @ ..] => {
+    match tokens.split() {
+        None => Err(unexpected(end, tokens)),
+        Some((x, rest)) => {
             if !same(x.terminal(), Terminal::Address) {
                 return Err(unexpected(end, tokens));
             }
@@ -29,36 +25,36 @@ fn address_token<'t>(
 }
 
 #[tactic(auto, unfolding(crate::specs::Reading::address_at))]
-fn address_at<'t>(alloc: Global, end: u64, tokens: &'t [Lexeme<'t>]) -> Part<'t, Option<Items<u8>>>
-    ensures { Gives end (λ x. (x.0, 0, x.1.now)) result (spec.address_at tokens.now) }
+fn address_at<'t>(alloc: Global, end: u64, tokens: &Lexemes<'t>) -> Part<'t, Option<Items<u8>>>
+    ensures { Gives end (λ x. (x.0, 0, x.1)) result (spec.address_at tokens.now) }
 {
     if !sees(Terminal::At, tokens) {
-        return Ok((None, tokens));
+        return Ok((None, tokens.same()));
     }
-    address_token(alloc, end, behind(tokens))
+    address_token(alloc, end, &behind(tokens))
 }
 
 #[tactic(auto, unfolding(crate::specs::Reading::initial_at))]
-fn initial_at<'t>(end: u64, tokens: &'t [Lexeme<'t>]) -> Part<'t, Option<Number>>
-    ensures { Gives end (λ x. (x.0, 0, x.1.now)) result (spec.initial_at tokens.now) }
+fn initial_at<'t>(end: u64, tokens: &Lexemes<'t>) -> Part<'t, Option<Number>>
+    ensures { Gives end (λ x. (x.0, 0, x.1)) result (spec.initial_at tokens.now) }
 {
     if !sees(Terminal::Assign, tokens) {
-        return Ok((None, tokens));
+        return Ok((None, tokens.same()));
     }
-    let (number, rest) = literal_at(end, behind(tokens))?;
+    let (number, rest) = literal_at(end, &behind(tokens))?;
     Ok((Some(number), rest))
 }
 
 #[tactic(auto, unfolding(crate::specs::Reading::decl))]
-fn decl<'t>(alloc: Global, end: u64, tokens: &'t [Lexeme<'t>]) -> Part<'t, Decl>
-    ensures { Gives end (λ x. (x.0, 0, x.1.now)) result (spec.decl tokens.now) }
+fn decl<'t>(alloc: Global, end: u64, tokens: &Lexemes<'t>) -> Part<'t, Decl>
+    ensures { Gives end (λ x. (x.0, 0, x.1)) result (spec.decl tokens.now) }
 {
     let (name, rest) = name_at(alloc, end, tokens)?;
-    let (address, rest) = address_at(alloc, end, rest)?;
-    let rest = expect(end, Terminal::Colon, rest)?;
-    let (ty, rest) = name_at(alloc, end, rest)?;
-    let (initial, rest) = initial_at(end, rest)?;
-    let rest = expect(end, Terminal::Semicolon, rest)?;
+    let (address, rest) = address_at(alloc, end, &rest)?;
+    let rest = expect(end, Terminal::Colon, &rest)?;
+    let (ty, rest) = name_at(alloc, end, &rest)?;
+    let (initial, rest) = initial_at(end, &rest)?;
+    let rest = expect(end, Terminal::Semicolon, &rest)?;
     let decl = Decl {
         name,
         address,
@@ -69,13 +65,13 @@ fn decl<'t>(alloc: Global, end: u64, tokens: &'t [Lexeme<'t>]) -> Part<'t, Decl>
 }
 
 #[tactic(auto, unfolding(crate::specs::Reading::bare_decl))]
-fn bare_decl<'t>(alloc: Global, end: u64, tokens: &'t [Lexeme<'t>]) -> Part<'t, Decl>
-    ensures { Gives end (λ x. (x.0, 0, x.1.now)) result (spec.bare_decl tokens.now) }
+fn bare_decl<'t>(alloc: Global, end: u64, tokens: &Lexemes<'t>) -> Part<'t, Decl>
+    ensures { Gives end (λ x. (x.0, 0, x.1)) result (spec.bare_decl tokens.now) }
 {
     let (name, rest) = name_at(alloc, end, tokens)?;
-    let rest = expect(end, Terminal::Colon, rest)?;
-    let (ty, rest) = name_at(alloc, end, rest)?;
-    let rest = expect(end, Terminal::Semicolon, rest)?;
+    let rest = expect(end, Terminal::Colon, &rest)?;
+    let (ty, rest) = name_at(alloc, end, &rest)?;
+    let rest = expect(end, Terminal::Semicolon, &rest)?;
     let decl = Decl {
         name,
         address: None,
@@ -92,39 +88,39 @@ fn begins_decl(terminal: Terminal) -> bool
 }
 
 #[tactic(auto, unfolding(crate::specs::Reading::several))]
-fn decls<'t>(alloc: Global, end: u64, tokens: &'t [Lexeme<'t>]) -> Part<'t, Items<Decl>>
-    ensures { Gives end (λ x. (x.0, 0, x.1.now)) result (spec.all_of spec.begins_decl spec.decl tokens.now) }
+fn decls<'t>(alloc: Global, end: u64, tokens: &Lexemes<'t>) -> Part<'t, Items<Decl>>
+    ensures { Gives end (λ x. (x.0, 0, x.1)) result (spec.all_of spec.begins_decl spec.decl tokens.now) }
 {
     several_parts!(
         alloc,
         end,
         tokens,
         begins_decl,
-        |rest| decl(alloc, end, rest)
+        |rest| decl(alloc, end, &rest)
     )
 }
 
 #[tactic(auto, unfolding(crate::specs::Reading::several))]
-fn bare_decls<'t>(alloc: Global, end: u64, tokens: &'t [Lexeme<'t>]) -> Part<'t, Items<Decl>>
-    ensures { Gives end (λ x. (x.0, 0, x.1.now)) result (spec.all_of spec.begins_decl spec.bare_decl tokens.now) }
+fn bare_decls<'t>(alloc: Global, end: u64, tokens: &Lexemes<'t>) -> Part<'t, Items<Decl>>
+    ensures { Gives end (λ x. (x.0, 0, x.1)) result (spec.all_of spec.begins_decl spec.bare_decl tokens.now) }
 {
     several_parts!(
         alloc,
         end,
         tokens,
         begins_decl,
-        |rest| bare_decl(alloc, end, rest)
+        |rest| bare_decl(alloc, end, &rest)
     )
 }
 
-fn mark_at<'t>(tokens: &'t [Lexeme<'t>]) -> (Mark, &'t [Lexeme<'t>])
+fn mark_at<'t>(tokens: &Lexemes<'t>) -> (Mark, Lexemes<'t>)
     ensures mark { result.0 ≡ (spec.mark_at tokens.now).0 }
-    ensures rest { result.1.now ≡ (spec.mark_at tokens.now).2 }
+    ensures rest { result.1 ≡ (spec.mark_at tokens.now).2 }
 {
     match next(tokens) {
         Terminal::Constant => (Mark::Constant, behind(tokens)),
         Terminal::Retain => (Mark::Retain, behind(tokens)),
-        _ => (Mark::Plain, tokens),
+        _ => (Mark::Plain, tokens.same()),
     }
 }
 
@@ -134,21 +130,21 @@ fn block_of<'t>(
     end: u64,
     class: TextClass,
     mark: Mark,
-    tokens: &'t [Lexeme<'t>],
+    tokens: &Lexemes<'t>,
 ) -> Part<'t, TextBlock>
-    ensures { Gives end (λ x. (x.0, 0, x.1.now)) result (spec.block_of spec.decl class mark tokens.now) }
+    ensures { Gives end (λ x. (x.0, 0, x.1)) result (spec.block_of spec.decl class mark tokens.now) }
 {
     let (decls, rest) = decls(alloc, end, tokens)?;
-    let rest = expect(end, Terminal::EndVar, rest)?;
+    let rest = expect(end, Terminal::EndVar, &rest)?;
     Ok((TextBlock { class, mark, decls }, rest))
 }
 
 #[tactic(auto, unfolding(crate::specs::Reading::block_of))]
-fn bare_block<'t>(alloc: Global, end: u64, tokens: &'t [Lexeme<'t>]) -> Part<'t, TextBlock>
-    ensures { Gives end (λ x. (x.0, 0, x.1.now)) result (spec.block_of spec.bare_decl TextClass.InOut Mark.Plain tokens.now) }
+fn bare_block<'t>(alloc: Global, end: u64, tokens: &Lexemes<'t>) -> Part<'t, TextBlock>
+    ensures { Gives end (λ x. (x.0, 0, x.1)) result (spec.block_of spec.bare_decl TextClass.InOut Mark.Plain tokens.now) }
 {
     let (decls, rest) = bare_decls(alloc, end, tokens)?;
-    let rest = expect(end, Terminal::EndVar, rest)?;
+    let rest = expect(end, Terminal::EndVar, &rest)?;
     let block = TextBlock {
         class: TextClass::InOut,
         mark: Mark::Plain,
@@ -161,26 +157,26 @@ fn marked_block<'t>(
     alloc: Global,
     end: u64,
     class: TextClass,
-    tokens: &'t [Lexeme<'t>],
+    tokens: &Lexemes<'t>,
 ) -> Part<'t, TextBlock>
-    ensures { Gives end (λ x. (x.0, 0, x.1.now)) result (spec.marked_block class tokens.now) }
+    ensures { Gives end (λ x. (x.0, 0, x.1)) result (spec.marked_block class tokens.now) }
 {
     let (mark, rest) = mark_at(tokens);
-    block_of(alloc, end, class, mark, rest)
+    block_of(alloc, end, class, mark, &rest)
 }
 
 #[tactic(auto, unfolding(crate::specs::Reading::block))]
-fn block<'t>(alloc: Global, end: u64, tokens: &'t [Lexeme<'t>]) -> Part<'t, TextBlock>
-    ensures { Gives end (λ x. (x.0, 0, x.1.now)) result (spec.block tokens.now) }
+fn block<'t>(alloc: Global, end: u64, tokens: &Lexemes<'t>) -> Part<'t, TextBlock>
+    ensures { Gives end (λ x. (x.0, 0, x.1)) result (spec.block tokens.now) }
 {
-    match tokens {
-        [] => Err(unexpected(end, tokens)),
-        [x, rest @ ..] => match x.terminal() {
-            Terminal::Var => marked_block(alloc, end, TextClass::Var, rest),
-            Terminal::VarInput => marked_block(alloc, end, TextClass::Input, rest),
-            Terminal::VarOutput => marked_block(alloc, end, TextClass::Output, rest),
-            Terminal::VarTemp => block_of(alloc, end, TextClass::Temp, Mark::Plain, rest),
-            Terminal::VarInOut => bare_block(alloc, end, rest),
+    match tokens.split() {
+        None => Err(unexpected(end, tokens)),
+        Some((x, rest)) => match x.terminal() {
+            Terminal::Var => marked_block(alloc, end, TextClass::Var, &rest),
+            Terminal::VarInput => marked_block(alloc, end, TextClass::Input, &rest),
+            Terminal::VarOutput => marked_block(alloc, end, TextClass::Output, &rest),
+            Terminal::VarTemp => block_of(alloc, end, TextClass::Temp, Mark::Plain, &rest),
+            Terminal::VarInOut => bare_block(alloc, end, &rest),
             _ => Err(unexpected(end, tokens)),
         },
     }
@@ -201,14 +197,14 @@ fn begins_block(terminal: Terminal) -> bool
 
 /// Blocks of declarations.
 #[tactic(auto, unfolding(crate::specs::Reading::several))]
-pub fn blocks<'t>(alloc: Global, end: u64, tokens: &'t [Lexeme<'t>]) -> Part<'t, Items<TextBlock>>
-    ensures { Gives end (λ x. (x.0, 0, x.1.now)) result (spec.all_of spec.begins_block spec.block tokens.now) }
+pub fn blocks<'t>(alloc: Global, end: u64, tokens: &Lexemes<'t>) -> Part<'t, Items<TextBlock>>
+    ensures { Gives end (λ x. (x.0, 0, x.1)) result (spec.all_of spec.begins_block spec.block tokens.now) }
 {
     several_parts!(
         alloc,
         end,
         tokens,
         begins_block,
-        |rest| block(alloc, end, rest)
+        |rest| block(alloc, end, &rest)
     )
 }

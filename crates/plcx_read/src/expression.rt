@@ -4,10 +4,9 @@ ghost use Rattle.plcx_read.specs.Reading as spec;
 ghost use Rattle.plcx_read.specs.Gives.{Gives};
 
 use crate::lexeme::Lexeme;
+use crate::lexemes::Lexemes;
 use crate::lists::parted;
-use crate::token::{
-    Read, behind, expect, literal_at, name_at, next, onward, room, too_deep, unexpected,
-};
+use crate::token::{Read, behind, expect, literal_at, name_at, next, room, too_deep, unexpected};
 use plcx_lex::TextError;
 use plcx_st::{Expr, Op, Terminal, level};
 use sqlite_items::{Boxed, Items};
@@ -35,7 +34,7 @@ fn operator(terminal: Terminal) -> Option<Op>
     }
 }
 
-fn next_operator(least: u8, tokens: &[Lexeme<'_>]) -> Option<Op>
+fn next_operator(least: u8, tokens: &Lexemes<'_>) -> Option<Op>
     ensures { result ≡ spec.next_operator least tokens.now }
 {
     match operator(next(tokens)) {
@@ -60,17 +59,17 @@ fn arguments<'t>(
     alloc: Global,
     end: u64,
     allowance: usize,
-    tokens: &'t [Lexeme<'t>],
+    tokens: &Lexemes<'t>,
 ) -> Read<'t, Items<Expr>>
     requires { allowance < 1000 }
-    ensures gives { Gives end (λ x. (x.0, x.1, x.2.now)) result (spec.list_of (spec.expr allowance 0) tokens.now) }
+    ensures gives { Gives end (λ x. (x.0, x.1, x.2)) result (spec.list_of (spec.expr allowance 0) tokens.now) }
     ensures within { IfOk result (λ x. x.1 ≤ allowance) }
 {
     parted!(
         alloc,
         end,
         tokens,
-        |rest| expr(alloc, end, allowance, 0, rest)
+        |rest| expr(alloc, end, allowance, 0, &rest)
     )
 }
 
@@ -81,10 +80,10 @@ fn call<'t>(
     end: u64,
     allowance: usize,
     name: &Lexeme<'t>,
-    tokens: &'t [Lexeme<'t>],
+    tokens: &Lexemes<'t>,
 ) -> Read<'t, Expr>
     requires { allowance < 1000 }
-    ensures gives { Gives end (λ x. (x.0, x.1, x.2.now)) result (spec.call allowance (spec.expr allowance) name.now tokens.now) }
+    ensures gives { Gives end (λ x. (x.0, x.1, x.2)) result (spec.call allowance (spec.expr allowance) name.now tokens.now) }
     ensures within { IfOk result (λ x. x.1 ≤ allowance + 1) }
 {
     if allowance == 0 {
@@ -92,41 +91,31 @@ fn call<'t>(
             at: name.span().start,
         });
     }
-    let (args, depth, rest) = arguments(alloc, end, allowance, behind(tokens))?;
+    let (args, depth, rest) = arguments(alloc, end, allowance, &behind(tokens))?;
     let function = name.word(alloc)?;
     Ok((Expr::Call { function, args }, depth + 1, rest))
 }
 
 #[tactic(auto, unfolding(crate::specs::Reading::member))]
-fn member<'t>(
-    alloc: Global,
-    end: u64,
-    name: &Lexeme<'t>,
-    tokens: &'t [Lexeme<'t>],
-) -> Read<'t, Expr>
-    ensures gives { Gives end (λ x. (x.0, x.1, x.2.now)) result (spec.member name.now tokens.now) }
+fn member<'t>(alloc: Global, end: u64, name: &Lexeme<'t>, tokens: &Lexemes<'t>) -> Read<'t, Expr>
+    ensures gives { Gives end (λ x. (x.0, x.1, x.2)) result (spec.member name.now tokens.now) }
     ensures within { IfOk result (λ x. x.1 ≤ 1) }
 {
-    let (output, rest) = name_at(alloc, end, behind(tokens))?;
+    let (output, rest) = name_at(alloc, end, &behind(tokens))?;
     let instance = name.word(alloc)?;
     Ok((Expr::Member { instance, output }, 1, rest))
 }
 
 #[cycle(expr)]
 #[tactic(auto, unfolding(crate::specs::Reading::bracketed))]
-fn bracketed<'t>(
-    alloc: Global,
-    end: u64,
-    allowance: usize,
-    tokens: &'t [Lexeme<'t>],
-) -> Read<'t, Expr>
+fn bracketed<'t>(alloc: Global, end: u64, allowance: usize, tokens: &Lexemes<'t>) -> Read<'t, Expr>
     requires { allowance < 1000 }
-    ensures gives { Gives end (λ x. (x.0, x.1, x.2.now)) result (spec.bracketed allowance (spec.expr allowance) tokens.now) }
+    ensures gives { Gives end (λ x. (x.0, x.1, x.2)) result (spec.bracketed allowance (spec.expr allowance) tokens.now) }
     ensures within { IfOk result (λ x. x.1 ≤ allowance + 1) }
 {
     room(end, allowance, tokens)?;
-    let (inner, depth, rest) = expr(alloc, end, allowance, 0, behind(tokens))?;
-    let rest = expect(end, Terminal::Close, rest)?;
+    let (inner, depth, rest) = expr(alloc, end, allowance, 0, &behind(tokens))?;
+    let rest = expect(end, Terminal::Close, &rest)?;
     Ok((inner, depth + 1, rest))
 }
 
@@ -137,14 +126,14 @@ fn negated<'t>(
     end: u64,
     allowance: usize,
     word: &Lexeme<'t>,
-    tokens: &'t [Lexeme<'t>],
+    tokens: &Lexemes<'t>,
 ) -> Read<'t, Expr>
     requires { allowance < 1000 }
-    ensures gives { Gives end (λ x. (x.0, x.1, x.2.now)) result (spec.negated allowance (spec.expr allowance) word.now tokens.now) }
+    ensures gives { Gives end (λ x. (x.0, x.1, x.2)) result (spec.negated allowance (spec.expr allowance) word.now tokens.now) }
     ensures within { IfOk result (λ x. x.1 ≤ allowance + 1) }
 {
     room(end, allowance, tokens)?;
-    let (inner, depth, rest) = expr(alloc, end, allowance, 7, behind(tokens))?;
+    let (inner, depth, rest) = expr(alloc, end, allowance, 7, &behind(tokens))?;
     let node = Expr::Not {
         operand: Boxed::new(alloc, inner)?,
         span: word.span(),
@@ -158,22 +147,22 @@ fn named<'t>(
     end: u64,
     allowance: usize,
     name: &Lexeme<'t>,
-    tokens: &'t [Lexeme<'t>],
+    tokens: &Lexemes<'t>,
 ) -> Read<'t, Expr>
     requires { allowance < 1000 }
-    ensures gives { Gives end (λ x. (x.0, x.1, x.2.now)) result (spec.named_by allowance (spec.expr allowance) (spec.next tokens.now) name.now tokens.now) }
+    ensures gives { Gives end (λ x. (x.0, x.1, x.2)) result (spec.named_by allowance (spec.expr allowance) (spec.next tokens.now) name.now tokens.now) }
     ensures within { IfOk result (λ x. x.1 ≤ allowance + 1) }
 {
     match next(tokens) {
         Terminal::Open => call(alloc, end, allowance, name, tokens),
         Terminal::Dot => member(alloc, end, name, tokens),
-        _ => Ok((Expr::Name(name.word(alloc)?), 1, tokens)),
+        _ => Ok((Expr::Name(name.word(alloc)?), 1, tokens.same())),
     }
 }
 
 #[tactic(auto, unfolding(crate::specs::Reading::valued))]
-fn valued<'t>(end: u64, tokens: &'t [Lexeme<'t>]) -> Read<'t, Expr>
-    ensures gives { Gives end (λ x. (x.0, x.1, x.2.now)) result (spec.valued tokens.now) }
+fn valued<'t>(end: u64, tokens: &Lexemes<'t>) -> Read<'t, Expr>
+    ensures gives { Gives end (λ x. (x.0, x.1, x.2)) result (spec.valued tokens.now) }
     ensures within { IfOk result (λ x. x.1 ≤ 1) }
 {
     let (number, rest) = literal_at(end, tokens)?;
@@ -182,23 +171,18 @@ fn valued<'t>(end: u64, tokens: &'t [Lexeme<'t>]) -> Read<'t, Expr>
 
 #[cycle(expr)]
 #[tactic(auto, unfolding(crate::specs::Reading::operand))]
-fn operand<'t>(
-    alloc: Global,
-    end: u64,
-    allowance: usize,
-    tokens: &'t [Lexeme<'t>],
-) -> Read<'t, Expr>
+fn operand<'t>(alloc: Global, end: u64, allowance: usize, tokens: &Lexemes<'t>) -> Read<'t, Expr>
     requires { allowance < 1000 }
-    ensures gives { Gives end (λ x. (x.0, x.1, x.2.now)) result (spec.operand allowance (spec.expr allowance) tokens.now) }
+    ensures gives { Gives end (λ x. (x.0, x.1, x.2)) result (spec.operand allowance (spec.expr allowance) tokens.now) }
     ensures within { IfOk result (λ x. x.1 ≤ allowance + 1) }
 {
-    match tokens {
-        [] => Err(unexpected(end, tokens)),
-        [x, rest @ ..] => match x.terminal() {
-            Terminal::Name => named(alloc, end, allowance, x, rest),
+    match tokens.split() {
+        None => Err(unexpected(end, tokens)),
+        Some((x, rest)) => match x.terminal() {
+            Terminal::Name => named(alloc, end, allowance, &x, &rest),
             Terminal::Number => valued(end, tokens),
             Terminal::Open => bracketed(alloc, end, allowance, tokens),
-            Terminal::Not => negated(alloc, end, allowance, x, tokens),
+            Terminal::Not => negated(alloc, end, allowance, &x, tokens),
             _ => Err(unexpected(end, tokens)),
         },
     }
@@ -213,30 +197,30 @@ fn climb<'t>(
     least: u8,
     first: Expr,
     height: usize,
-    tokens: &'t [Lexeme<'t>],
+    tokens: &Lexemes<'t>,
 ) -> Read<'t, Expr>
     requires limit { allowance < 1000 }
     requires first { height ≤ allowance + 1 }
-    ensures gives { Gives end (λ x. (x.0, x.1, x.2.now)) result (spec.climb allowance (spec.expr allowance) (allowance + 1) least first height tokens.now) }
+    ensures gives { Gives end (λ x. (x.0, x.1, x.2)) result (spec.climb allowance (spec.expr allowance) (allowance + 1) least first height tokens.now) }
     ensures within { IfOk result (λ x. x.1 ≤ allowance + 1) }
 {
     let mut left = first;
     let mut depth = height;
-    let mut rest = tokens;
+    let mut rest = tokens.same();
     for _turn in 0..allowance + 1 {
-        let Some(op) = next_operator(least, rest) else {
+        let Some(op) = next_operator(least, &rest) else {
             return Ok((left, depth, rest));
         };
         if allowance < depth {
-            return Err(too_deep(end, rest));
+            return Err(too_deep(end, &rest));
         }
-        let (right, at, after) = expr(alloc, end, allowance, level(op) + 1, behind(rest))?;
+        let (right, at, after) = expr(alloc, end, allowance, level(op) + 1, &behind(&rest))?;
         left = binary(alloc, op, left, right)?;
         depth = depth.max(at) + 1;
-        rest = onward(after);
+        rest = after;
     }
-    if next_operator(least, rest).is_some() {
-        return Err(too_deep(end, rest));
+    if next_operator(least, &rest).is_some() {
+        return Err(too_deep(end, &rest));
     }
     Ok((left, depth, rest))
 }
@@ -249,15 +233,15 @@ pub fn expr<'t>(
     end: u64,
     allowance: usize,
     least: u8,
-    tokens: &'t [Lexeme<'t>],
+    tokens: &Lexemes<'t>,
 ) -> Read<'t, Expr>
     requires { allowance ≤ 1000 }
-    ensures gives { Gives end (λ x. (x.0, x.1, x.2.now)) result (spec.expr allowance least tokens.now) }
+    ensures gives { Gives end (λ x. (x.0, x.1, x.2)) result (spec.expr allowance least tokens.now) }
     ensures within { IfOk result (λ x. x.1 ≤ allowance) }
 {
     if allowance == 0 {
         return Err(too_deep(end, tokens));
     }
     let (first, height, rest) = operand(alloc, end, allowance - 1, tokens)?;
-    climb(alloc, end, allowance - 1, least, first, height, rest)
+    climb(alloc, end, allowance - 1, least, first, height, &rest)
 }

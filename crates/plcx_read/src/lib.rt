@@ -4,6 +4,7 @@
 mod declaration;
 mod expression;
 mod lexeme;
+mod lexemes;
 mod lists;
 mod place;
 mod printed;

@@ -5,17 +5,17 @@ macro_rules! several {
     ($alloc:ident, $end:ident, $tokens:ident, $begins:ident, |$rest:ident| $one:expr) => {{
         let mut found = Vec::new($alloc);
         let mut depth: usize = 0;
-        let mut $rest = $tokens;
-        for _turn in 0..$tokens.len() + 1 {
-            if !$begins($crate::token::next($rest)) {
+        let mut $rest = $tokens.same();
+        for _turn in 0..$tokens.turns() {
+            if !$begins($crate::token::next(&$rest)) {
                 return Ok(($crate::token::listed(found), depth, $rest));
             }
             let (x, at, after) = $one?;
             found.push(x)?;
             depth = depth.max(at);
-            $rest = $crate::token::onward(after);
+            $rest = after;
         }
-        Err($crate::token::unexpected($end, $rest))
+        Err($crate::token::unexpected($end, &$rest))
     }};
 }
 
@@ -23,16 +23,16 @@ macro_rules! several {
 macro_rules! several_parts {
     ($alloc:ident, $end:ident, $tokens:ident, $begins:ident, |$rest:ident| $one:expr) => {{
         let mut found = Vec::new($alloc);
-        let mut $rest = $tokens;
-        for _turn in 0..$tokens.len() + 1 {
-            if !$begins($crate::token::next($rest)) {
+        let mut $rest = $tokens.same();
+        for _turn in 0..$tokens.turns() {
+            if !$begins($crate::token::next(&$rest)) {
                 return Ok(($crate::token::listed(found), $rest));
             }
             let (x, after) = $one?;
             found.push(x)?;
-            $rest = $crate::token::onward(after);
+            $rest = after;
         }
-        Err($crate::token::unexpected($end, $rest))
+        Err($crate::token::unexpected($end, &$rest))
     }};
 }
 
@@ -41,19 +41,19 @@ macro_rules! parted {
     ($alloc:ident, $end:ident, $tokens:ident, |$rest:ident| $one:expr) => {{
         let mut found = Vec::with_capacity($alloc, 1)?;
         let mut depth: usize = 0;
-        let mut $rest = $tokens;
-        for _turn in 0..$tokens.len() + 1 {
+        let mut $rest = $tokens.same();
+        for _turn in 0..$tokens.turns() {
             let (x, at, after) = $one?;
             found.push(x)?;
             depth = depth.max(at);
-            if $crate::token::sees(plcx_st::Terminal::Comma, after) {
-                $rest = $crate::token::behind(after);
+            if $crate::token::sees(plcx_st::Terminal::Comma, &after) {
+                $rest = $crate::token::behind(&after);
             } else {
-                let after = $crate::token::expect($end, plcx_st::Terminal::Close, after)?;
+                let after = $crate::token::expect($end, plcx_st::Terminal::Close, &after)?;
                 return Ok(($crate::token::listed(found), depth, after));
             }
         }
-        Err($crate::token::unexpected($end, $rest))
+        Err($crate::token::unexpected($end, &$rest))
     }};
 }
 

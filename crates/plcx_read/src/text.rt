@@ -1,33 +1,15 @@
-ghost use Rattle.std.specs.Prelude.{◌≡◌, ◌≤◌, ℕ, List, ⊤, map, IfOk, MatchResult, All};
-ghost use Rattle.plcx_lex.specs.Lexis.{spelt};
-ghost use Rattle.plcx_lex.specs.Terminal.{terminal};
+ghost use Rattle.std.specs.Prelude.{◌≡◌, ◌≤◌, ℕ, List, ⊤, IfOk, MatchResult};
 ghost use Rattle.plcx_st.specs.declared.tree.Unit as tree;
 ghost use Rattle.plcx_st.specs.Grammar.{limit};
 ghost use Rattle.plcx_st.specs.Stands.{StandsForUnit};
 ghost use Rattle.plcx_read.specs.Fails.{IsRead, ReadFails};
 
-use crate::lexeme::Lexeme;
+use crate::lexemes::Lexemes;
 use crate::unit::pous;
-use plcx_lex::{TextError, TextToken, tokens};
+use plcx_lex::{TextError, tokens};
 use plcx_st::Unit;
 use plcx_types::limits::MAX_TEXT_DEPTH;
-use std::alloc::{AllocError, Global};
-
-/// The tokens with their texts. It gives up the tokens at its end.
-fn lexemes<'t>(
-    alloc: Global,
-    bytes: &'t [u8],
-    tokens: Vec<TextToken>,
-) -> Result<Vec<Lexeme<'t>>, AllocError>
-    requires { All (λ t. t.terminal ≡ terminal (spelt bytes.now t)) tokens.items }
-    ensures { IfOk result (λ found. found.items ≡ map (spelt bytes.now) tokens.items) }
-{
-    let mut found = Vec::with_capacity(alloc, tokens.len())?;
-    for token in &tokens {
-        found.push(Lexeme::new(bytes, *token))?;
-    }
-    Ok(found)
-}
+use std::alloc::Global;
 
 /// The unit that a text is, or why it is none and where.
 pub fn read(alloc: Global, bytes: &[u8]) -> Result<Unit, TextError>
@@ -36,7 +18,7 @@ pub fn read(alloc: Global, bytes: &[u8]) -> Result<Unit, TextError>
     ensures fails { MatchResult result (λ _. ⊤) (ReadFails bytes.now) }
 {
     let tokens = tokens(alloc, bytes)?;
-    let lexemes = lexemes(alloc, bytes, tokens)?;
+    let lexemes = Lexemes::new(bytes, &tokens);
     let pous = pous(alloc, bytes.len() as u64, MAX_TEXT_DEPTH, &lexemes)?;
     Ok(Unit { pous })
 }

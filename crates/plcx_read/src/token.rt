@@ -4,17 +4,17 @@ ghost use Rattle.plcx_read.specs.Reading as spec;
 ghost use Rattle.plcx_st.specs.Place.{start_of};
 ghost use Rattle.plcx_read.specs.Gives.{Gives, located};
 
-use crate::lexeme::Lexeme;
+use crate::lexemes::Lexemes;
 use plcx_lex::TextError;
 use plcx_st::{Number, Terminal, Word};
 use sqlite_items::Items;
 use std::alloc::Global;
 
 /// What a reader gives: a value, its depth, and the tokens after it. Readers take the length of the text, which is the place where tokens are missing.
-pub type Read<'t, T> = Result<(T, usize, &'t [Lexeme<'t>]), TextError>;
+pub type Read<'t, T> = Result<(T, usize, Lexemes<'t>), TextError>;
 
 /// What a reader of a part without depth gives: a value, and the tokens after it.
-pub type Part<'t, T> = Result<(T, &'t [Lexeme<'t>]), TextError>;
+pub type Part<'t, T> = Result<(T, Lexemes<'t>), TextError>;
 
 /// Whether both are the same terminal.
 #[tactic(auto, unfolding(crate::specs::Reading::same))]
@@ -25,37 +25,37 @@ pub fn same(a: Terminal, b: Terminal) -> bool
 }
 
 /// What the next token is.
-pub fn next(tokens: &[Lexeme<'_>]) -> Terminal
+pub fn next(tokens: &Lexemes<'_>) -> Terminal
     ensures { result ≡ spec.next tokens.now }
 {
-    match tokens {
-        [] => Terminal::Other,
-        [x, ..] => x.terminal(),
+    match tokens.split() {
+        None => Terminal::Other,
+        Some((x, _)) => x.terminal(),
     }
 }
 
 /// Whether the next token is this terminal.
-pub fn sees(terminal: Terminal, tokens: &[Lexeme<'_>]) -> bool
+pub fn sees(terminal: Terminal, tokens: &Lexemes<'_>) -> bool
     ensures { result ≡ spec.sees terminal tokens.now }
 {
-    match tokens {
-        [] => false,
-        [x, ..] => same(x.terminal(), terminal),
+    match tokens.split() {
+        None => false,
+        Some((x, _)) => same(x.terminal(), terminal),
     }
 }
 
 /// Where the first of the tokens begins, or the text ends.
-fn start_of(end: u64, tokens: &[Lexeme<'_>]) -> u64
+fn start_of(end: u64, tokens: &Lexemes<'_>) -> u64
     ensures { result ≡ start_of tokens.now end }
 {
-    match tokens {
-        [] => end,
-        [x, ..] => x.span().start,
+    match tokens.split() {
+        None => end,
+        Some((x, _)) => x.span().start,
     }
 }
 
 /// The next token does not go on, or there is none.
-pub fn unexpected(end: u64, tokens: &[Lexeme<'_>]) -> TextError
+pub fn unexpected(end: u64, tokens: &Lexemes<'_>) -> TextError
     ensures { result ≡ located end spec.syntax tokens.now }
 {
     TextError::Syntax {
@@ -64,7 +64,7 @@ pub fn unexpected(end: u64, tokens: &[Lexeme<'_>]) -> TextError
 }
 
 /// The next token would go on if the text could be deeper.
-pub fn too_deep(end: u64, tokens: &[Lexeme<'_>]) -> TextError
+pub fn too_deep(end: u64, tokens: &Lexemes<'_>) -> TextError
     ensures { result ≡ located end spec.too_deep tokens.now }
 {
     TextError::TooDeep {
@@ -73,20 +73,13 @@ pub fn too_deep(end: u64, tokens: &[Lexeme<'_>]) -> TextError
 }
 
 /// The tokens behind the first.
-pub fn behind<'t>(tokens: &'t [Lexeme<'t>]) -> &'t [Lexeme<'t>]
-    ensures { result.now ≡ drop 1 tokens.now }
+pub fn behind<'t>(tokens: &Lexemes<'t>) -> Lexemes<'t>
+    ensures { result ≡ drop 1 tokens.now }
 {
-    match tokens {
-        [] => tokens,
-        [_, rest @ ..] => rest,
+    match tokens.split() {
+        None => tokens.same(),
+        Some((_, rest)) => rest,
     }
-}
-
-/// The same tokens. A loop that goes on behind what it read takes them by a call, which the borrow checker wants.
-pub fn onward<'t>(tokens: &'t [Lexeme<'t>]) -> &'t [Lexeme<'t>]
-    ensures { result.now ≡ tokens.now }
-{
-    tokens
 }
 
 /// The list of what was found, with room for that alone.
@@ -102,13 +95,13 @@ pub fn listed<T: Drop>(mut found: Vec<T>) -> Items<T>
 pub fn expect<'t>(
     end: u64,
     terminal: Terminal,
-    tokens: &'t [Lexeme<'t>],
-) -> Result<&'t [Lexeme<'t>], TextError>
-    ensures { Gives end (λ x. x.now) result (spec.expect terminal tokens.now) }
+    tokens: &Lexemes<'t>,
+) -> Result<Lexemes<'t>, TextError>
+    ensures { Gives end (λ x. x) result (spec.expect terminal tokens.now) }
 {
-    match tokens {
-        [] => Err(unexpected(end, tokens)),
-        [x, rest @ ..] => {
+    match tokens.split() {
+        None => Err(unexpected(end, tokens)),
+        Some((x, rest)) => {
             if same(x.terminal(), terminal) {
                 Ok(rest)
             } else {
@@ -120,12 +113,12 @@ pub fn expect<'t>(
 
 /// A name, and the tokens behind it.
 #[tactic(auto, unfolding(crate::specs::Reading::name_at))]
-pub fn name_at<'t>(alloc: Global, end: u64, tokens: &'t [Lexeme<'t>]) -> Part<'t, Word>
-    ensures { Gives end (λ x. (x.0, 0, x.1.now)) result (spec.name_at tokens.now) }
+pub fn name_at<'t>(alloc: Global, end: u64, tokens: &Lexemes<'t>) -> Part<'t, Word>
+    ensures { Gives end (λ x. (x.0, 0, x.1)) result (spec.name_at tokens.now) }
 {
-    match tokens {
-        [] => Err(unexpected(end, tokens)),
-        [x, rest @ ..] => {
+    match tokens.split() {
+        None => Err(unexpected(end, tokens)),
+        Some((x, rest)) => {
             if same(x.terminal(), Terminal::Name) {
                 Ok((x.word(alloc)?, rest))
             } else {
@@ -137,12 +130,12 @@ pub fn name_at<'t>(alloc: Global, end: u64, tokens: &'t [Lexeme<'t>]) -> Part<'t
 
 /// A literal, and the tokens behind it.
 #[tactic(auto, unfolding(crate::specs::Reading::literal_at))]
-pub fn literal_at<'t>(end: u64, tokens: &'t [Lexeme<'t>]) -> Part<'t, Number>
-    ensures { Gives end (λ x. (x.0, 0, x.1.now)) result (spec.literal_at tokens.now) }
+pub fn literal_at<'t>(end: u64, tokens: &Lexemes<'t>) -> Part<'t, Number>
+    ensures { Gives end (λ x. (x.0, 0, x.1)) result (spec.literal_at tokens.now) }
 {
-    match tokens {
-        [] => Err(unexpected(end, tokens)),
-        [x, rest @ ..] => {
+    match tokens.split() {
+        None => Err(unexpected(end, tokens)),
+        Some((x, rest)) => {
             if same(x.terminal(), Terminal::Number) {
                 match x.literal() {
                     None => Err(unexpected(end, tokens)),
@@ -164,7 +157,7 @@ pub fn literal_at<'t>(end: u64, tokens: &'t [Lexeme<'t>]) -> Part<'t, Number>
 
 /// There is room for what is inside, or the first token does not go on.
 #[tactic(auto, unfolding(crate::specs::Reading::room))]
-pub fn room(end: u64, allowance: usize, tokens: &[Lexeme<'_>]) -> Result<(), TextError>
+pub fn room(end: u64, allowance: usize, tokens: &Lexemes<'_>) -> Result<(), TextError>
     ensures { Gives end (λ x. x) result (spec.room allowance tokens.now) }
 {
     if allowance == 0 {

@@ -4,7 +4,7 @@ ghost use Rattle.plcx_read.specs.Reading as spec;
 ghost use Rattle.plcx_read.specs.Gives.{Gives};
 
 use crate::declaration::blocks;
-use crate::lexeme::Lexeme;
+use crate::lexemes::Lexemes;
 use crate::lists::several;
 use crate::statement::statements;
 use crate::token::{Read, behind, expect, name_at, too_deep, unexpected};
@@ -28,16 +28,16 @@ fn pou_of<'t>(
     end: u64,
     allowance: usize,
     kind: TextKind,
-    tokens: &'t [Lexeme<'t>],
+    tokens: &Lexemes<'t>,
 ) -> Read<'t, PouText>
     requires { allowance < 1000 }
-    ensures gives { Gives end (λ x. (x.0, x.1, x.2.now)) result (spec.pou_of allowance kind tokens.now) }
+    ensures gives { Gives end (λ x. (x.0, x.1, x.2)) result (spec.pou_of allowance kind tokens.now) }
     ensures within { IfOk result (λ x. x.1 ≤ allowance + 1) }
 {
-    let (name, rest) = name_at(alloc, end, behind(tokens))?;
-    let (blocks, rest) = blocks(alloc, end, rest)?;
-    let (body, depth, rest) = statements(alloc, end, allowance, rest)?;
-    let rest = expect(end, ending(kind), rest)?;
+    let (name, rest) = name_at(alloc, end, &behind(tokens))?;
+    let (blocks, rest) = blocks(alloc, end, &rest)?;
+    let (body, depth, rest) = statements(alloc, end, allowance, &rest)?;
+    let rest = expect(end, ending(kind), &rest)?;
     let pou = PouText {
         kind,
         name,
@@ -48,17 +48,17 @@ fn pou_of<'t>(
 }
 
 #[tactic(auto, unfolding(crate::specs::Reading::pou))]
-fn pou<'t>(alloc: Global, end: u64, allowance: usize, tokens: &'t [Lexeme<'t>]) -> Read<'t, PouText>
+fn pou<'t>(alloc: Global, end: u64, allowance: usize, tokens: &Lexemes<'t>) -> Read<'t, PouText>
     requires { allowance ≤ 1000 }
-    ensures gives { Gives end (λ x. (x.0, x.1, x.2.now)) result (spec.pou allowance tokens.now) }
+    ensures gives { Gives end (λ x. (x.0, x.1, x.2)) result (spec.pou allowance tokens.now) }
     ensures within { IfOk result (λ x. x.1 ≤ allowance) }
 {
     if allowance == 0 {
         return Err(too_deep(end, tokens));
     }
-    match tokens {
-        [] => Err(unexpected(end, tokens)),
-        [x, ..] => match x.terminal() {
+    match tokens.split() {
+        None => Err(unexpected(end, tokens)),
+        Some((x, _)) => match x.terminal() {
             Terminal::Program => pou_of(alloc, end, allowance - 1, TextKind::Program, tokens),
             Terminal::FunctionBlock => {
                 pou_of(alloc, end, allowance - 1, TextKind::FunctionBlock, tokens)
@@ -79,10 +79,10 @@ fn several<'t>(
     alloc: Global,
     end: u64,
     allowance: usize,
-    tokens: &'t [Lexeme<'t>],
+    tokens: &Lexemes<'t>,
 ) -> Read<'t, Items<PouText>>
     requires { allowance ≤ 1000 }
-    ensures gives { Gives end (λ x. (x.0, x.1, x.2.now)) result (spec.all_of spec.begins_pou (spec.pou allowance) tokens.now) }
+    ensures gives { Gives end (λ x. (x.0, x.1, x.2)) result (spec.all_of spec.begins_pou (spec.pou allowance) tokens.now) }
     ensures within { IfOk result (λ x. x.1 ≤ allowance) }
 {
     several!(
@@ -90,7 +90,7 @@ fn several<'t>(
         end,
         tokens,
         begins_pou,
-        |rest| pou(alloc, end, allowance, rest)
+        |rest| pou(alloc, end, allowance, &rest)
     )
 }
 
@@ -100,14 +100,14 @@ pub fn pous<'t>(
     alloc: Global,
     end: u64,
     allowance: usize,
-    tokens: &'t [Lexeme<'t>],
+    tokens: &Lexemes<'t>,
 ) -> Result<Items<PouText>, TextError>
     requires { allowance ≤ 1000 }
     ensures { Gives end (λ x. x) result (spec.pous allowance tokens.now) }
 {
     let (pous, _, rest) = several(alloc, end, allowance, tokens)?;
-    if rest.len() != 0 {
-        return Err(unexpected(end, rest));
+    if !rest.is_empty() {
+        return Err(unexpected(end, &rest));
     }
     Ok(pous)
 }
