@@ -7,12 +7,12 @@ ghost use Rattle.plcx_types.specs.Range.{fits};
 ghost use Rattle.plcx_types.specs.TypeName.{same_ty};
 ghost use Rattle.plcx_state.specs.Layouts.{is_kept, leaf_at, meant_path, HasName};
 ghost use Rattle.plcx_state.specs.Retains.{IsRetainedOf};
-ghost use Rattle.plcx_state.specs.Tables.{path_text, HasPlainNames, IsTold};
+ghost use Rattle.plcx_state.specs.Tables.{IsTold};
 ghost use Rattle.plcx_keep.specs.Carries.{value_of, value_at, can_change, row, row_of, row_if_kept, rows_from, is_from_old, is_carried_to, lost_if, lost_from, carry_of};
 ghost use Rattle.plcx_keep.specs.States.{AreRowsOf, AreRowsWithin, AreLostWithin};
 
 use plcx_funcs::Allowed;
-use plcx_state::{Layout, Leaf, PathTable, Retained};
+use plcx_state::{Layout, Leaf, PathTable, Retained, path_text};
 use plcx_types::{NoMemory, Ty, Val};
 use sqlite_items::Items;
 use std::alloc::Global;
@@ -99,16 +99,6 @@ fn row_of(number: u32, leaf: &Leaf, old: Option<Val>) -> CarryRow
         Some(old) => row_from(number, leaf, old),
         None => row(number, Fate::Fresh, leaf.initial),
     }
-}
-
-/// The text of a leaf's path, as a table has it.
-fn path_text(alloc: Global, leaf: &Leaf) -> Result<Vec<u8>, NoMemory>
-    ensures text { IfOk result (λ text. text.items ≡ path_text leaf.now) }
-    ensures plain { IfOk result (λ _. HasPlainNames leaf.now) }
-{
-    let mut text = leaf.path.text(alloc)?;
-    text.as_mut_slice().make_ascii_lowercase();
-    Ok(text)
 }
 
 /// The number of the leaf of a table that has the path of another leaf.

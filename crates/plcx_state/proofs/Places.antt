@@ -2,8 +2,9 @@
 use Rattle.std.proofs.Common.{◌≡◌, ◌<◌, ◌+◌, ◌∷◌, ◌∙◌, ℕ, zero, suc, Bool, true, false, true≢false, List, [], Some, None, cond, map, refl, sym, ap, arith, zero-add}
 use Rattle.std.specs.Prelude.{slice_get, not}
 use Rattle.std.specs.List.{position_from, list_any}
+use Rattle.std.specs.Option.{option_map}
 use Rattle.std.proofs.lemmas.Bool.{and_parts, or_parts, not-true, false_from_ne_true}
-use Rattle.std.proofs.lemmas.Option.{same_Some}
+use Rattle.std.proofs.lemmas.Option.{same_Some, slice_get-map}
 use Rattle.std.proofs.lemmas.Slice.Eq.{bytes_eq-Decides}
 use Rattle.plcx_types.specs.Name.{in_lower_case}
 use Rattle.plcx_types.specs.Lists.{Each}
@@ -12,7 +13,7 @@ use Rattle.plcx_meaning.specs.Layout.{all_apart}
 use Rattle.plcx_meaning.specs.Layout.{Leaf as Meant}
 use Rattle.plcx_meaning.proofs.Starts.{path_same}
 use Rattle.plcx_state.specs.declared.layout.Leaf.{Leaf}
-use Rattle.plcx_state.specs.Layouts.{meant_path, all_meant, dotted, is_nameless, HasName}
+use Rattle.plcx_state.specs.Layouts.{meant_path, meant, all_meant, dotted, is_nameless, HasName}
 use Rattle.plcx_state.specs.Tables.{path_text, is_printed, printed_at, IsPlain, HasPlainNames, IsTold}
 use Rattle.plcx_state.proofs.Paths.{same_if, meant_from}
 use Rattle.plcx_state.proofs.Eaches.{each_get}
@@ -55,37 +56,39 @@ swapped p q h = false_from_ne_true (same_path q p) (λ e. true≢false (sym (sam
 abbrev pub paths : List Leaf → List Path
 paths leaves = map (λ (leaf : Meant). leaf.path) (all_meant leaves)
 
--- a path that none of these is
-not_among : (p : Path) (leaves : List Leaf) → list_any (same_path p) (paths leaves) ≡ false → (i : ℕ) (leaf : Leaf) → slice_get leaves i ≡ Some leaf → p ≡ meant_path leaf.path → ⊥
-not_among p [] h i leaf at e = cc
-not_among p (l ∷ leaves) h zero leaf at e =
-    let parts = or_parts (same_path p (meant_path l.path)) (list_any (same_path p) (paths leaves)) h in
-    let is : l ≡ leaf = same_Some l leaf at in
-    true≢false (sym (same_if p (meant_path l.path) (e ∙ ap (λ (x : Leaf). meant_path x.path) (sym is))) ∙ parts.0)
-not_among p (l ∷ leaves) h (suc i) leaf at e = not_among p leaves (or_parts (same_path p (meant_path l.path)) (list_any (same_path p) (paths leaves)) h).1 i leaf at e
-
 -- a leaf among leaves whose path none of theirs is
-pub apart_from : (leaves : List Leaf) (p : Path) → list_any (same_path p) (paths leaves) ≡ false → (i : ℕ) (leaf : Leaf) → slice_get leaves i ≡ Some leaf → same_path p (meant_path leaf.path) ≡ false
-apart_from [] p h i leaf at = absurd (cc)
-apart_from (l ∷ leaves) p h zero leaf at =
-    let a = or_parts (same_path p (meant_path l.path)) (list_any (same_path p) (paths leaves)) h in ap (λ (x : Leaf). same_path p (meant_path x.path)) (sym (same_Some l leaf at)) ∙ a.0
-apart_from (l ∷ leaves) p h (suc i) leaf at = apart_from leaves p (or_parts (same_path p (meant_path l.path)) (list_any (same_path p) (paths leaves)) h).1 i leaf at
+apart_meant : (leaves : List Meant) (p : Path) → list_any (same_path p) (map (λ (x : Meant). x.path) leaves) ≡ false → (i : ℕ) (leaf : Meant) → slice_get leaves i ≡ Some leaf → same_path p leaf.path ≡ false
+apart_meant [] p h i leaf at = absurd (cc)
+apart_meant (l ∷ leaves) p h zero leaf at =
+    let a = or_parts (same_path p l.path) (list_any (same_path p) (map (λ (x : Meant). x.path) leaves)) h in
+    ap (λ (x : Meant). same_path p x.path) (sym (same_Some l leaf at)) ∙ a.0
+apart_meant (l ∷ leaves) p h (suc i) leaf at = apart_meant leaves p (or_parts (same_path p l.path) (list_any (same_path p) (map (λ (x : Meant). x.path) leaves)) h).1 i leaf at
 
--- a leaf is known by its path
+-- a leaf of the meaning is known by its path
+pub one_meant : (leaves : List Meant) → all_apart (map (λ (x : Meant). x.path) leaves) ≡ true → (i j : ℕ) (a b : Meant) → slice_get leaves i ≡ Some a → slice_get leaves j ≡ Some b → a.path ≡ b.path → i ≡ j
+one_meant [] h i j a b p q e = absurd (cc)
+one_meant (l ∷ leaves) h zero zero a b p q e = refl
+one_meant (l ∷ leaves) h zero (suc j) a b p q e =
+    let parts = and_parts (not (list_any (same_path l.path) (map (λ (x : Meant). x.path) leaves))) (all_apart (map (λ (x : Meant). x.path) leaves)) h in
+    let same : l.path ≡ b.path = ap (λ (x : Meant). x.path) (same_Some l a p) ∙ e in
+    absurd (true≢false (sym (same_if l.path b.path same) ∙ apart_meant leaves l.path (not-true _ parts.0) j b q))
+one_meant (l ∷ leaves) h (suc i) zero a b p q e =
+    let parts = and_parts (not (list_any (same_path l.path) (map (λ (x : Meant). x.path) leaves))) (all_apart (map (λ (x : Meant). x.path) leaves)) h in
+    let same : l.path ≡ a.path = ap (λ (x : Meant). x.path) (same_Some l b q) ∙ sym e in
+    absurd (true≢false (sym (same_if l.path a.path same) ∙ apart_meant leaves l.path (not-true _ parts.0) i a p))
+one_meant (l ∷ leaves) h (suc i) (suc j) a b p q e =
+    let parts = and_parts (not (list_any (same_path l.path) (map (λ (x : Meant). x.path) leaves))) (all_apart (map (λ (x : Meant). x.path) leaves)) h in
+    ap suc (one_meant leaves parts.1 i j a b p q e)
+
+-- the same of leaves by their numbers
+meant_at : (leaves : List Leaf) (i : ℕ) (leaf : Leaf) → slice_get leaves i ≡ Some leaf → slice_get (all_meant leaves) i ≡ Some (meant leaf)
+meant_at leaves i leaf at = slice_get-map meant leaves i ∙ ap (option_map meant) at
+
+pub apart_from : (leaves : List Leaf) (p : Path) → list_any (same_path p) (paths leaves) ≡ false → (i : ℕ) (leaf : Leaf) → slice_get leaves i ≡ Some leaf → same_path p (meant_path leaf.path) ≡ false
+apart_from leaves p h i leaf at = apart_meant (all_meant leaves) p h i (meant leaf) (meant_at leaves i leaf at)
+
 pub one_place : (leaves : List Leaf) → all_apart (paths leaves) ≡ true → (i j : ℕ) (a b : Leaf) → slice_get leaves i ≡ Some a → slice_get leaves j ≡ Some b → meant_path a.path ≡ meant_path b.path → i ≡ j
-one_place [] h i j a b p q e = absurd (cc)
-one_place (l ∷ leaves) h zero zero a b p q e = refl
-one_place (l ∷ leaves) h zero (suc j) a b p q e =
-    let parts = and_parts (not (list_any (same_path (meant_path l.path)) (paths leaves))) (all_apart (paths leaves)) h in
-    let is : l ≡ a = same_Some l a p in
-    absurd (not_among (meant_path l.path) leaves (not-true _ parts.0) j b q (ap (λ (x : Leaf). meant_path x.path) is ∙ e))
-one_place (l ∷ leaves) h (suc i) zero a b p q e =
-    let parts = and_parts (not (list_any (same_path (meant_path l.path)) (paths leaves))) (all_apart (paths leaves)) h in
-    let is : l ≡ b = same_Some l b q in
-    absurd (not_among (meant_path l.path) leaves (not-true _ parts.0) i a p (ap (λ (x : Leaf). meant_path x.path) is ∙ sym e))
-one_place (l ∷ leaves) h (suc i) (suc j) a b p q e =
-    let parts = and_parts (not (list_any (same_path (meant_path l.path)) (paths leaves))) (all_apart (paths leaves)) h in
-    ap suc (one_place leaves parts.1 i j a b p q e)
+one_place leaves h i j a b p q e = one_meant (all_meant leaves) h i j (meant a) (meant b) (meant_at leaves i a p) (meant_at leaves j b q) e
 
 pub one_leaf : (leaves : List Leaf) → all_apart (paths leaves) ≡ true → (i j : ℕ) (a b : Leaf) → slice_get leaves i ≡ Some a → slice_get leaves j ≡ Some b → meant_path a.path ≡ meant_path b.path → a ≡ b
 one_leaf leaves h i j a b p q e = same_Some a b (sym p ∙ ap (slice_get leaves) (one_place leaves h i j a b p q e) ∙ q)

@@ -20,4 +20,4 @@ pub use lines::{RetainError, print_retained, read_retained};
 pub use path::Path;
 pub use retained::{Retained, initial};
 pub use store::Store;
-pub use table::PathTable;
+pub use table::{PathTable, in_lower_case, path_text};

@@ -32,7 +32,7 @@ impl<'a> Model for PathTable<'a> {
 }
 
 /// A text in lower case.
-pub(crate) fn in_lower_case(alloc: Global, text: &[u8]) -> Result<Vec<u8>, NoMemory>
+pub fn in_lower_case(alloc: Global, text: &[u8]) -> Result<Vec<u8>, NoMemory>
     ensures { IfOk result (λ copy. copy.items ≡ in_lower_case text.now) }
 {
     let mut copy = Vec::from_slice(alloc, text)?;
@@ -40,7 +40,8 @@ pub(crate) fn in_lower_case(alloc: Global, text: &[u8]) -> Result<Vec<u8>, NoMem
     Ok(copy)
 }
 
-fn path_text(alloc: Global, leaf: &Leaf) -> Result<Vec<u8>, NoMemory>
+/// The text of a leaf's path, as a look-up gives it.
+pub fn path_text(alloc: Global, leaf: &Leaf) -> Result<Vec<u8>, NoMemory>
     ensures text { IfOk result (λ text. text.items ≡ path_text leaf.now) }
     ensures plain { IfOk result (λ _. HasPlainNames leaf.now) }
 {
