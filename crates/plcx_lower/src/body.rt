@@ -1,5 +1,5 @@
 //! The statements of a body, as they grow.
-ghost use Rattle.std.specs.Prelude.{◌≡◌, [], ◌∷◌, IsTrue, IfOk, OnOk};
+ghost use Rattle.std.specs.Prelude.{◌≡◌, [], ◌∷◌, IsTrue, IfOk, OnOk, codes};
 ghost use Rattle.plcx_meaning.specs.Tree.{Assign, If, statements};
 ghost use Rattle.plcx_meaning.specs.Templates.{wire, wire_name, store_text, turned_if, enabled};
 ghost use Rattle.plcx_st.specs.Meant.{expr_meant, stmt_meant};
@@ -30,16 +30,21 @@ pub fn assignment(target: Word, value: Expr) -> Stmt
     Stmt::Assign { target, value }
 }
 
+/// One statement alone.
+fn alone(alloc: Global, stmt: Stmt) -> Result<Items<Stmt>, NoMemory>
+    ensures { IfOk result (λ items. items ≡ stmt ∷ []) }
+{
+    let mut body = Vec::with_capacity(alloc, 1)?;
+    body.push(stmt)?;
+    Ok(Items::from_vec(body))
+}
+
 /// A statement within an IF.
 pub fn when(alloc: Global, cond: Expr, stmt: Stmt) -> Result<Stmt, NoMemory>
     ensures { IfOk result (λ s. stmt_meant s ≡ If (expr_meant cond) (statements (stmt_meant stmt ∷ []))) }
 {
-    let mut body = Vec::with_capacity(alloc, 1)?;
-    body.push(stmt)?;
-    Ok(Stmt::If {
-        cond,
-        body: Items::from_vec(body),
-    })
+    let body = alone(alloc, stmt)?;
+    Ok(Stmt::If { cond, body })
 }
 
 /// A variable gets a value or its opposite, or is set or reset where the value is TRUE.
@@ -98,17 +103,22 @@ impl Body {
         }
     }
 
+    fn put_within(&mut self, id: u64, stmt: Stmt) -> Result<(), NoMemory>
+        requires { IsTrue (is_identifier (wire_name id (codes "ENO"))) }
+        ensures { OnOk result (Adds self.old self.new (If (wire id (codes "ENO")) (statements (stmt_meant stmt ∷ [])) ∷ [])) }
+    {
+        let cond = wire_value(self.alloc, id, b"ENO")?;
+        let within = when(self.alloc, cond, stmt)?;
+        self.put(within)
+    }
+
     /// A statement within an IF over ENO where EN is connected, or as it is.
     pub fn put_enabled(&mut self, id: u64, enable: &Enable, stmt: Stmt) -> Result<(), NoMemory>
         requires { StatementInRange (enabled id (shown_enable enable.now) (stmt_meant stmt)) }
         ensures { OnOk result (Adds self.old self.new (enabled id (shown_enable enable.now) (stmt_meant stmt) ∷ [])) }
     {
         match &enable.en {
-            Some(_) => {
-                let cond = wire_value(self.alloc, id, b"ENO")?;
-                let within = when(self.alloc, cond, stmt)?;
-                self.put(within)
-            }
+            Some(_) => self.put_within(id, stmt),
             None => self.put(stmt),
         }
     }

@@ -150,6 +150,32 @@ impl Body {
         self.put(assignment(memory, wire))
     }
 
+    /// What a coil stores where its wire rises, and what it remembers.
+    fn put_rising(&mut self, id: u64, variable: &[u8], wired: Expr) -> Result<(), NoMemory>
+        requires variable { IsTrue (is_identifier variable.now) }
+        requires memory { IsTrue (is_identifier (memory_name (AtEdge id))) }
+        requires wire { IsTrue (is_identifier (wire_name id [])) }
+        ensures { OnOk result (Adds self.old self.new
+            (Assign variable.now (both (expr_meant wired) (Not (memory (AtEdge id)))) ∷ Assign (memory_name (AtEdge id)) (wire id []) ∷ [])) }
+    {
+        let memory = edge_value(self.alloc, id)?;
+        let before = turned(self.alloc, memory)?;
+        self.put_edge(id, variable, wired, before)
+    }
+
+    /// What a coil stores where its wire falls, and what it remembers.
+    fn put_falling(&mut self, id: u64, variable: &[u8], wired: Expr) -> Result<(), NoMemory>
+        requires variable { IsTrue (is_identifier variable.now) }
+        requires memory { IsTrue (is_identifier (memory_name (AtEdge id))) }
+        requires wire { IsTrue (is_identifier (wire_name id [])) }
+        ensures { OnOk result (Adds self.old self.new
+            (Assign variable.now (both (Not (expr_meant wired)) (memory (AtEdge id))) ∷ Assign (memory_name (AtEdge id)) (wire id []) ∷ [])) }
+    {
+        let memory = edge_value(self.alloc, id)?;
+        let now = turned(self.alloc, wired)?;
+        self.put_edge(id, variable, now, memory)
+    }
+
     /// What a coil stores, and at an edge remembers, by its wire.
     fn put_stored(&mut self, id: u64, how: Coiling, variable: &[u8]) -> Result<(), NoMemory>
         requires { Each StatementInRange (coil_text (shown_coiling how) variable.now (AtEdge id) (wire id [])) }
@@ -161,16 +187,8 @@ impl Body {
                 let stmt = storing(self.alloc, how, variable, wire)?;
                 self.put(stmt)
             }
-            Coiling::Rising => {
-                let memory = edge_value(self.alloc, id)?;
-                let before = turned(self.alloc, memory)?;
-                self.put_edge(id, variable, wire, before)
-            }
-            Coiling::Falling => {
-                let memory = edge_value(self.alloc, id)?;
-                let now = turned(self.alloc, wire)?;
-                self.put_edge(id, variable, now, memory)
-            }
+            Coiling::Rising => self.put_rising(id, variable, wire),
+            Coiling::Falling => self.put_falling(id, variable, wire),
         }
     }
 
@@ -392,7 +410,8 @@ impl Body {
 }
 
 ghost use Rattle.plcx_meaning.specs.Base.{AtEdge};
-ghost use Rattle.plcx_meaning.specs.Templates.{wire, both, coil_text, memory_name};
+ghost use Rattle.plcx_meaning.specs.Tree.{Not};
+ghost use Rattle.plcx_meaning.specs.Templates.{wire, both, coil_text, memory, memory_name};
 ghost use Rattle.plcx_st.specs.Meant.{expr_meant};
 ghost use Rattle.plcx_st.specs.InRange.{ExpressionInRange};
 ghost use Rattle.plcx_types.specs.Name.{is_identifier};

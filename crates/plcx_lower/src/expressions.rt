@@ -4,7 +4,7 @@ ghost use Rattle.plcx_types.specs.Lists.{Each};
 ghost use Rattle.plcx_types.specs.Name.{is_identifier};
 ghost use Rattle.plcx_meaning.specs.Base.{AtEdge, AtOutput};
 ghost use Rattle.plcx_meaning.specs.Tree.{Not, Binary};
-ghost use Rattle.plcx_meaning.specs.Templates.{number, truth, not_if, source_text, or_text, link_text, operand_text, contact_text, wire_name, wire, memory_name, memory};
+ghost use Rattle.plcx_meaning.specs.Templates.{both, number, truth, not_if, source_text, or_text, link_text, operand_text, contact_text, wire_name, wire, memory_name, memory};
 ghost use Rattle.plcx_st.specs.Meant.{expr_meant, op_meant};
 ghost use Rattle.plcx_st.specs.InRange.{ExpressionInRange};
 ghost use Rattle.plcx_drawn.specs.Shown.{shown_source, shown_link, shown_operand, shown_contacting};
@@ -139,6 +139,32 @@ pub fn operand_value(alloc: Global, operand: &Operand) -> Result<Expr, NoMemory>
     }
 }
 
+/// The AND of an expression and the opposite of another.
+fn and_not(alloc: Global, left: Expr, right: Expr) -> Result<Expr, NoMemory>
+    ensures { IfOk result (λ e. expr_meant e ≡ both (expr_meant left) (Not (expr_meant right))) }
+{
+    let opposite = turned(alloc, right)?;
+    binary(alloc, Op::And, left, opposite)
+}
+
+/// What a contact lets through where its variable rises.
+fn risen(alloc: Global, id: u64, wired: Expr, value: Expr) -> Result<Expr, NoMemory>
+    requires { IsTrue (is_identifier (memory_name (AtEdge id))) }
+    ensures { IfOk result (λ e. expr_meant e ≡ both (both (expr_meant wired) (expr_meant value)) (Not (memory (AtEdge id)))) }
+{
+    let set = binary(alloc, Op::And, wired, value)?;
+    and_not(alloc, set, edge_value(alloc, id)?)
+}
+
+/// What a contact lets through where its variable falls.
+fn fallen(alloc: Global, id: u64, wired: Expr, value: Expr) -> Result<Expr, NoMemory>
+    requires { IsTrue (is_identifier (memory_name (AtEdge id))) }
+    ensures { IfOk result (λ e. expr_meant e ≡ both (both (expr_meant wired) (Not (expr_meant value))) (memory (AtEdge id))) }
+{
+    let released = and_not(alloc, wired, value)?;
+    binary(alloc, Op::And, released, edge_value(alloc, id)?)
+}
+
 /// What a contact lets through, by its number, its link and its variable.
 pub fn contact_value(
     alloc: Global,
@@ -155,20 +181,8 @@ pub fn contact_value(
     let value = operand_value(alloc, operand)?;
     match how {
         Contacting::Open => binary(alloc, Op::And, wired, value),
-        Contacting::Closed => binary(alloc, Op::And, wired, turned(alloc, value)?),
-        Contacting::Rising => {
-            let before = turned(alloc, edge_value(alloc, id)?)?;
-            binary(
-                alloc,
-                Op::And,
-                binary(alloc, Op::And, wired, value)?,
-                before,
-            )
-        }
-        Contacting::Falling => {
-            let before = edge_value(alloc, id)?;
-            let released = binary(alloc, Op::And, wired, turned(alloc, value)?)?;
-            binary(alloc, Op::And, released, before)
-        }
+        Contacting::Closed => and_not(alloc, wired, value),
+        Contacting::Rising => risen(alloc, id, wired, value),
+        Contacting::Falling => fallen(alloc, id, wired, value),
     }
 }
