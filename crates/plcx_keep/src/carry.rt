@@ -7,7 +7,7 @@ ghost use Rattle.plcx_types.specs.Range.{fits};
 ghost use Rattle.plcx_types.specs.TypeName.{same_ty};
 ghost use Rattle.plcx_state.specs.Layouts.{is_kept, leaf_at, meant_path, HasName};
 ghost use Rattle.plcx_state.specs.Retains.{IsRetainedOf};
-ghost use Rattle.plcx_state.specs.Tables.{IsTold};
+ghost use Rattle.plcx_state.specs.Tables.{HasPlainNames, IsTold};
 ghost use Rattle.plcx_keep.specs.Carries.{value_of, value_at, can_change, row, row_of, row_if_kept, rows_from, is_from_old, is_carried_to, lost_if, lost_from, carry_of};
 ghost use Rattle.plcx_keep.specs.States.{AreRowsOf, AreRowsWithin, AreLostWithin};
 
