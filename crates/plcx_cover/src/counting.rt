@@ -177,4 +177,8 @@ impl Watch for Cover {
         self.last = place;
         self.rows[place] = counted(self.rows[place], value);
     }
+
+    fn listens(&self) -> bool {
+        true
+    }
 }

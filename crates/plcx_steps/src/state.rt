@@ -1,5 +1,5 @@
 //! What a scan changes, and who listens to it.
-ghost use Rattle.std.specs.Prelude.{◌≡◌};
+ghost use Rattle.std.specs.Prelude.{◌≡◌, false};
 ghost use Rattle.plcx_types.specs.Value.{Value};
 ghost use Rattle.plcx_meaning.specs.Evaluate.{Heard};
 ghost use Rattle.plcx_steps.specs.Numbered.{heard};
@@ -32,4 +32,8 @@ pub trait Watch {
     /// its value. It takes no memory.
     fn output(&mut self, pou: u32, local_id: u64, pin: u32, value: Val)
         ensures { self.new ≡ told self.old (heard pou local_id pin value) };
+
+    /// Whether it keeps anything of what it hears. One that doesn't need not be told.
+    fn listens(&self) -> bool
+        ensures { result ≡ false → (w : Self) (h : Heard) → told w h ≡ w };
 }

@@ -15,6 +15,10 @@ impl Watch for Silent {
     ghost told = { λ w h. w };
 
     fn output(&mut self, _pou: u32, _local_id: u64, _pin: u32, _value: Val) {}
+
+    fn listens(&self) -> bool {
+        false
+    }
 }
 
 /// An output that was told: the place of its POU, its element, its number among the element's wires, and its value.
@@ -83,5 +87,9 @@ impl Watch for LogWatch {
             };
             self.count += 1;
         }
+    }
+
+    fn listens(&self) -> bool {
+        true
     }
 }
