@@ -1,15 +1,14 @@
 -- What comes of events where someone listens.
-use Rattle.std.proofs.Common.{◌≡◌, ℕ, zero, suc, Bool, true, false, List, [], ◌∷◌, ◌++◌, Option, Some, None, map, take, refl, sym, ap, ap₂, ◌∙◌, append_assoc}
+use Rattle.std.proofs.Common.{◌≡◌, ℕ, zero, suc, Bool, true, false, List, [], ◌∷◌, ◌++◌, Option, Some, None, take, refl, sym, ap, ◌∙◌, append_assoc}
 use Rattle.std.specs.Prelude.{if◌then◌else◌}
-use Rattle.std.specs.List.{fold}
 use Rattle.std.proofs.lemmas.List.Sums.{fold-append}
 use Rattle.plcx_meaning.specs.Base.{Outcome, Ended, Stopped, Stuck}
 use Rattle.plcx_meaning.specs.Diagram.{Pou, Project}
 use Rattle.plcx_meaning.specs.Evaluate.{Heard, DiagramState, scan_does, unheard, diagram_machine}
-use Rattle.plcx_meaning.specs.Run.{Input, Event, Scan, Again, Machine, Side, Halted, told_of, side_after, tells, after}
+use Rattle.plcx_meaning.specs.Run.{Event, Scan, Again, Machine, Side, Halted, told_of, side_after, tells, after}
 use Rattle.plcx_meaning.specs.Traces.{Line, line, shown_values, lines_from, side_at_end}
 use Rattle.plcx_meaning.specs.Watch.{heard_of, heard_at, heard_over}
-use Rattle.plcx_eval.specs.Watching.{Lenders, Listened, listened, hears, with_watch, listened_machine, unwatched, RunsWatched, WatchedRuns, HeardInOrder}
+use Rattle.plcx_eval.specs.Watching.{Lenders, Listened, hears, with_watch, listened_machine, unwatched, RunsWatched, WatchedRuns, HeardInOrder}
 
 module _ {M : Type 0} (tell : M → Heard → M) where
   hears_none : (w : Option M) → w ≡ hears tell [] w

@@ -1,17 +1,15 @@
 -- What the side stands for that someone listens to.
-use Rattle.std.proofs.Common.{◌≡◌, ℕ, List, [], ◌∷◌, Option, Some, refl, sym, ap, ◌∙◌, subst}
+use Rattle.std.proofs.Common.{◌≡◌, ℕ, List, [], ◌∷◌, Some, refl, sym, ap, ◌∙◌, subst}
 use Rattle.std.specs.Borrow.{MutBor}
 use Rattle.std.specs.List.{fold}
-use Rattle.plcx_meaning.specs.Evaluate.{Heard, DiagramState}
-use Rattle.plcx_meaning.specs.Run.{Event, after, tells}
+use Rattle.plcx_meaning.specs.Evaluate.{Heard}
+use Rattle.plcx_meaning.specs.Run.{Event, after}
 use Rattle.plcx_meaning.specs.Run.{Side as Meant}
-use Rattle.plcx_meaning.specs.Traces.{side_at_end}
 use Rattle.plcx_meaning.specs.Watch.{heard_at, heard_over}
-use Rattle.plcx_eval.specs.declared.side.DiagramSide.{DiagramSide}
 use Rattle.plcx_eval.specs.declared.watching.Watched.{Watched}
 use Rattle.plcx_eval.specs.Listening.{told_behind, lenders, watched_machine, ListensTo, WatchIsTold}
 use Rattle.plcx_eval.specs.Sides.{diagrams, program, machine_of, StandsFor}
-use Rattle.plcx_eval.specs.Watching.{Listened, listened, hears, unwatched, watched}
+use Rattle.plcx_eval.specs.Watching.{Listened, hears, unwatched, watched}
 use Rattle.plcx_eval.proofs.Hearing.{runs, after_same, watch_after}
 
 module _ {M : Type 0} (tell : M → Heard → M) where

@@ -1,17 +1,16 @@
 -- A side that is opened.
-use Rattle.std.proofs.Common.{◌≡◌, ℕ, ◌<◌, ◌≤◌, false, List, Option, Some, map, length, get_or, slice_get, refl, sym, ap, ap₂, ◌∙◌, subst}
+use Rattle.std.proofs.Common.{◌≡◌, ℕ, ◌<◌, ◌≤◌, false, List, Option, Some, map, length, slice_get, sym, ap, ap₂, ◌∙◌, subst}
 use Rattle.std.proofs.lemmas.Option.{slice_get_within, get_or_from_slice_get}
 use Rattle.plcx_types.specs.Value.{Value}
 use Rattle.plcx_meaning.specs.Diagram.{Pou, Project, program_named}
-use Rattle.plcx_meaning.specs.Evaluate.{DiagramState, diagram_machine}
-use Rattle.plcx_meaning.specs.Run.{Machine}
+use Rattle.plcx_meaning.specs.Evaluate.{diagram_machine}
 use Rattle.plcx_meaning.specs.Tree.{is_program}
 use Rattle.plcx_model.specs.declared.project.Pou.{Pou as Drawn}
 use Rattle.plcx_drawn.specs.declared.drawing.Drawing.{Drawing}
 use Rattle.plcx_drawn.specs.Pous.{shown_pou}
 use Rattle.plcx_state.specs.Layouts.{Laid, IsLaid}
 use Rattle.plcx_state.specs.Retains.{kept_at, IsRetainedOf}
-use Rattle.plcx_state.specs.Stores.{Stored, IsStoreOf, opened}
+use Rattle.plcx_state.specs.Stores.{IsStoreOf, opened}
 use Rattle.plcx_steps.specs.declared.program.Body.{Body}
 use Rattle.plcx_steps.specs.declared.program.Program.{Program}
 use Rattle.plcx_steps.specs.declared.state.State.{State}
@@ -21,11 +20,13 @@ use Rattle.plcx_stored.specs.Between.{AgreesWith}
 use Rattle.plcx_stored.specs.LaidFor.{IsLaidFor}
 use Rattle.plcx_stored.specs.Laws.{StoreOpens}
 use Rattle.plcx_opening.specs.Opening.{IsProgramAt, IsKeptFor}
-use Rattle.plcx_eval.specs.declared.preparing.Frame.{Frame}
+use Rattle.plcx_frames.specs.declared.preparing.Frame.{Frame}
+use Rattle.plcx_frames.specs.Frames.{HasFrame}
+use Rattle.plcx_frames.proofs.Kept.{kept_same}
 use Rattle.plcx_eval.specs.declared.side.DiagramSide.{DiagramSide}
-use Rattle.plcx_eval.specs.Ready.{no_pou, pou_at, HasFrame, IsReady}
-use Rattle.plcx_eval.specs.Sides.{diagrams, program, machine_of, laid_of, last_of, OpensFor, IsOpened}
-use Rattle.plcx_eval.proofs.Standing.{program_is, kept_same}
+use Rattle.plcx_eval.specs.Ready.{no_pou, pou_at, IsReady}
+use Rattle.plcx_eval.specs.Sides.{diagrams, program, last_of, OpensFor}
+use Rattle.plcx_eval.proofs.Standing.{program_is}
 
 -- what is drawn of a project is drawn of it by the same POUs and drawings
 pub drawn_same : (pous pous' : List Drawn) (ds ds' : List Drawing) (project : Project) → pous' ≡ pous → ds' ≡ ds → map (shown_pou pous) ds ≡ project → map (shown_pou pous') ds' ≡ project

@@ -1,41 +1,30 @@
 -- A scan of a side is one of the diagram.
-use Rattle.std.proofs.Common.{◌≡◌, ℕ, zero, suc, ℤ, pos, ◌+◌, ◌<◌, ◌≤◌, Bool, true, false, List, [], ◌∷◌, Some, map, length, slice_get, refl, sym, ap, ◌∙◌, subst, arith}
-use Rattle.std.specs.Prelude.{is_err, if◌then◌else◌}
+use Rattle.std.proofs.Common.{◌≡◌, ℕ, ℤ, pos, ◌≤◌, false, List, [], Some, map, length, slice_get, sym, ap, ◌∙◌, subst, arith}
 use Rattle.std.specs.declared.result.Result.{Result}
-use Rattle.std.specs.declared.result.Result.TheVariants.{Ok, Err}
 use Rattle.std.proofs.lemmas.Option.{slice_get-get_or}
 use Rattle.plcx_types.specs.Lists.{Each}
-use Rattle.plcx_types.specs.Value.{Value}
-use Rattle.plcx_meaning.specs.Base.{Outcome, Ended, Stopped, Stuck}
-use Rattle.plcx_meaning.specs.Evaluate.{Heard, DiagramState, diagram_machine}
-use Rattle.plcx_meaning.specs.Run.{Scan, Machine, after, put_inputs, side_after}
-use Rattle.plcx_meaning.specs.Run as meant
+use Rattle.plcx_meaning.specs.Evaluate.{Heard, DiagramState}
+use Rattle.plcx_meaning.specs.Run.{Scan, put_inputs}
 use Rattle.plcx_meaning.specs.Run.{Side as Meant}
 use Rattle.plcx_fits.specs.Laws.{CheckedFits}
 use Rattle.plcx_state.specs.Layouts.{IsLaid}
 use Rattle.plcx_state.specs.Stores.{Stored, IsStored, IsStoreOf}
 use Rattle.plcx_scan.specs.declared.event.Input.{Input}
 use Rattle.plcx_scan.specs.Events.{IsInput, meant_input}
-use Rattle.plcx_steps.specs.declared.program.Body.{Body}
 use Rattle.plcx_steps.specs.declared.state.State.{State}
 use Rattle.plcx_steps.specs.declared.state.Stop.{Stop}
 use Rattle.plcx_steps.specs.Numbered.{bodies_do}
 use Rattle.plcx_steps.specs.Running.{numbered, outcome, nothing, StandsTyped}
 use Rattle.plcx_steps.specs.Sound.{Stands, levels, origin}
 use Rattle.plcx_runnable.specs.Laws.{BodiesThere, ProgramsStand}
-use Rattle.plcx_stored.specs.Between.{AgreesWith, with_inputs, is_stopped, IsScanOf}
+use Rattle.plcx_stored.specs.Between.{AgreesWith, with_inputs, IsScanOf}
 use Rattle.plcx_stored.specs.Laws.{OneAgreement, InputsAreStored, ScansAreStored, StoreIsTyped}
+use Rattle.plcx_frames.proofs.Scanning.{there_is}
 use Rattle.plcx_eval.specs.declared.side.DiagramSide.{DiagramSide}
 use Rattle.plcx_eval.specs.Ready.{no_pou}
 use Rattle.plcx_eval.specs.Sides.{diagrams, program, StandsFor}
 use Rattle.plcx_eval.proofs.Sided.{laid_for, project_fits}
 use Rattle.plcx_eval.proofs.Standing.{program_kind}
-
--- there is an item at each place of a list
-there_is : {A : Type 0} (xs : List A) (i : ℕ) → i < length xs → (x : A) × (slice_get xs i ≡ Some x)
-there_is [] i h = absurd (omega arith)
-there_is (x ∷ xs) zero h = (x, refl)
-there_is (x ∷ xs) (suc i) h = there_is xs i (omega arith)
 
 -- its program stands at its place
 pub program_there : (s : DiagramSide) → slice_get (diagrams s) s.place ≡ Some (program s)
@@ -60,10 +49,6 @@ stands fits one bodies stand types s laid store stored of wires in_outs wide dee
     stand (diagrams s) s.program (project_fits fits s) s.ready.prepared s.place (program s) found.0 (program_there s) (program_kind (program s).kind s.ready.program_there) found.1
     store.values store.memories typed.0 typed.1 wires in_outs (omega arith) (omega arith)
 
--- lists that are the same are as long
-pub as_long : {A : Type 0} (xs ys : List A) → xs ≡ ys → length ys ≤ length xs
-as_long xs ys e = let same = ap length e in omega arith
-
 -- what it does is what the diagram does, whoever watches
 pub scanned : {M : Type 0} (tell : M → Heard → M) → CheckedFits → OneAgreement → InputsAreStored → ScansAreStored tell → (s : DiagramSide) → IsLaid s.layout → s.halted ≡ false
     → (time : ℕ) (clock : ℤ) → clock ≡ pos time → (inputs : List Input) → Each (IsInput s.layout.leaves) inputs
@@ -78,18 +63,3 @@ scanned {M} tell fits one put scans s laid runs time clock is_time inputs are ol
     scans (diagrams s) s.program (project_fits fits s) s.ready.prepared s.place (program s) (program_there s) (program_kind (program s).kind s.ready.program_there)
     time written g (h.halted ∙ runs) old new agreed result before behind
     (does ∙ ap (λ (t : ℤ). bodies_do levels tell s.program t s.place origin [] (numbered old before)) is_time)
-
--- a result is an error where the scan stopped
-pub stopped_is : (result : Result (Unit {0}) Stop) → is_stopped result ≡ is_err result
-stopped_is (Ok u) = refl
-stopped_is (Err e) = refl
-
--- the time of the last scan after a scan
-pub last_is : {G : Type 0} (m : Machine G) (turns time : ℕ) (inputs : List meant.Input) (g : Meant G) → (after m turns (Scan time inputs) g).last ≡ time
-last_is {G} m turns time inputs g = by g.halted (m.scan turns time inputs g.state)
-  where
-    by : (b : Bool) (o : Outcome G (Unit {0})) → (if b then record g { last = time } else side_after time g.state o).last ≡ time
-    by true o = refl
-    by false (Ended s u) = refl
-    by false (Stopped c s) = refl
-    by false Stuck = refl

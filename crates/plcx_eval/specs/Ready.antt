@@ -1,18 +1,17 @@
 -- When a program stands ready for a scan, between two events.
-use Rattle.std.specs.Prelude.{◌≡◌, ◌+◌, ◌<◌, ◌≤◌, ℕ, true, List, [], Some, get_or, length, slice_get}
-use Rattle.plcx_types.specs.Value.{Value}
+use Rattle.std.specs.Prelude.{◌≡◌, ◌<◌, ◌≤◌, ℕ, true, [], Some, get_or, length, slice_get}
 use Rattle.plcx_meaning.specs.Diagram.{Pou, Project}
 use Rattle.plcx_meaning.specs.Tree.{FunctionBlock, is_program}
 use Rattle.plcx_state.specs.Layouts.{Laid}
-use Rattle.plcx_state.specs.Stores.{HasValue, IsStoreOf}
-use Rattle.plcx_scan.specs.declared.event.Input.{Input}
+use Rattle.plcx_state.specs.Stores.{IsStoreOf}
 use Rattle.plcx_steps.specs.declared.program.Body.{Body}
 use Rattle.plcx_steps.specs.declared.program.Program.{Program}
 use Rattle.plcx_steps.specs.declared.state.State.{State}
 use Rattle.plcx_steps.specs.Sound.{most_inputs}
 use Rattle.plcx_numbered.specs.Programs.{IsProgramOf}
 use Rattle.plcx_stored.specs.LaidFor.{IsLaidFor}
-use Rattle.plcx_eval.specs.declared.preparing.Frame.{Frame}
+use Rattle.plcx_frames.specs.declared.preparing.Frame.{Frame}
+use Rattle.plcx_frames.specs.Frames.{HasFrame}
 
 -- a POU of nothing
 abbrev pub no_pou : Pou
@@ -21,15 +20,6 @@ no_pou = record { kind = FunctionBlock; name = []; lists = []; elements = []; ne
 -- the POU at a place
 abbrev pub pou_at : Project → ℕ → Pou
 pou_at project place = get_or project place no_pou
-
--- there are wires and in-outs enough for a body, and for all that it calls
-pub record HasFrame (body : Body) (frame : Frame) : Type 0 where
-  pub wide : body.first_wire + body.width ≤ length frame.wires.items
-  pub deep : body.first_in_out ≤ length frame.in_outs.items
-
--- an input is of the type of its leaf
-abbrev pub Puts : List Value → Input → Type 0
-Puts values input = HasValue values input.leaf input.value.ty
 
 -- The POU at this place of the project is a program, and is prepared; its layout, store, wires and in-outs are there. What is told by more than one proof
 -- is only said to be so.

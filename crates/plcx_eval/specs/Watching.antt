@@ -1,5 +1,5 @@
 -- A diagram with someone who listens to its scans.
-use Rattle.std.specs.Prelude.{◌≡◌, ℕ, List, [], ◌++◌, Option, Some, None, take}
+use Rattle.std.specs.Prelude.{◌≡◌, ℕ, List, ◌++◌, Option, None, take}
 use Rattle.std.specs.Borrow.{GName}
 use Rattle.std.specs.List.{fold}
 use Rattle.std.specs.Option.{option_map}

@@ -5,7 +5,6 @@
 //! listens.
 #![tactic(auto)]
 
-mod preparing;
 mod side;
 mod watching;
 

@@ -14,9 +14,9 @@ ghost use Rattle.plcx_opening.specs.Opening.{IsKeptFor};
 ghost use Rattle.plcx_view.specs.Diagrams.{diagrams_of};
 ghost use Rattle.plcx_eval.specs.Ready.{IsReady};
 
-use crate::preparing::{Frame, frame_of, outcome_of, put_inputs, state_of};
 use plcx_check::Checked;
 use plcx_fits::checked_fits;
+use plcx_frames::{Frame, frame_of, outcome_of, put_inputs, state_of};
 use plcx_opening::{drawings, layout_at, program_place};
 use plcx_packed::{Packed, scan};
 use plcx_program::prepared;

@@ -1,5 +1,5 @@
 mod Laid
-pub mod Standing
+pub mod Levels
 mod Stands
 pub mod Remembered
 pub mod Suited

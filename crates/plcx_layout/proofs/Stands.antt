@@ -1,18 +1,14 @@
 -- The leaves of a checked project can be laid out.
-use Rattle.std.proofs.Common.{◌≡◌, ℕ, zero, suc, ℤ, pos, ◌+◌, ◌<◌, ◌≤◌, ◌^◌, Bool, true, false, List, [], ◌∷◌, Option, Some, map, reverse, length, slice_get, refl, sym, ap, ◌∙◌, subst, arith, if◌then◌else◌}
-use Rattle.std.specs.Prelude.{◌||◌, ◌&&◌, not}
+use Rattle.std.proofs.Common.{◌≡◌, ℕ, zero, suc, ◌+◌, ◌<◌, ◌≤◌, ◌^◌, Bool, true, false, List, [], ◌∷◌, Option, Some, length, slice_get, sym, ap, ◌∙◌, subst, arith, if◌then◌else◌}
 use Rattle.std.specs.List.{flat_map}
 use Rattle.std.proofs.lemmas.List.{length-map}
-use Rattle.plcx_types.specs.declared.ty.Ty.{Ty}
 use Rattle.plcx_types.specs.Limits.{max_leaves}
 use Rattle.plcx_types.specs.Lists.{Each}
 use Rattle.plcx_types.specs.Value.{Value}
-use Rattle.plcx_std.specs.declared.kind.StdKind.{StdKind}
-use Rattle.plcx_std.specs.Pins.{Pin, pins}
 use Rattle.plcx_meaning.specs.Evaluate.{scope_of}
 use Rattle.plcx_meaning.specs.Fits.{PouFits}
 use Rattle.plcx_meaning.specs.Diagram as diagram
-use Rattle.plcx_meaning.specs.Layout.{Leaf, Spelling, path_of, initial_value, is_outside, is_kept, IsLayout, layout}
+use Rattle.plcx_meaning.specs.Layout.{Spelling, initial_value, is_kept, IsLayout, layout}
 use Rattle.plcx_meaning.proofs.Lists.{each_flat_map}
 use Rattle.plcx_meaning.proofs.LeafPaths.{proper_layout}
 use Rattle.plcx_meaning.proofs.LeafScopes.{diagram_scope}
@@ -26,38 +22,19 @@ use Rattle.plcx_model.specs.declared.project.VarList.{VarList}
 use Rattle.plcx_model.specs.declared.project.Pou.{Pou}
 use Rattle.plcx_model.specs.declared.project.Project.{Project}
 use Rattle.plcx_model.specs.Sound.{PouIsSound}
-use Rattle.plcx_state.specs.declared.layout.Leaf as code
-use Rattle.plcx_state.specs.Layouts.{meant, all_meant, HasName, LiesOutside, is_nameless}
+use Rattle.plcx_state.specs.Layouts.{meant, all_meant}
 use Rattle.plcx_view.specs.Declared.{class_of}
 use Rattle.plcx_view.specs.Diagrams.{pous_from}
 use Rattle.plcx_fits.specs.Laws.{CheckedFits}
 use Rattle.plcx_fits.proofs.Lists.{each_place}
 use Rattle.plcx_fits.proofs.Nests.{leaves_fit}
 use Rattle.plcx_fits.proofs.Spelled.{seen, whole}
-use Rattle.plcx_layout.specs.Leaves.{Inner, leaf_by, standard_leaves, lists_at, type_leaves, variable_leaves, list_leaves, leaves, program_leaves}
+use Rattle.plcx_leaves.proofs.Stands.{StandsWell, one_stands, standard_stand, named, outside}
+use Rattle.plcx_layout.specs.Leaves.{Inner, lists_at, type_leaves, variable_leaves, list_leaves, leaves, program_leaves}
 use Rattle.plcx_layout.specs.Laws.{LeavesStand}
 use Rattle.plcx_layout.proofs.Laid.{leaves_laid}
 
 -- ---- each leaf
-
--- a leaf has a name, and lies outside where it is settable or shown
-abbrev StandsWell : Leaf → Type 0
-StandsWell leaf = (leaf.spelled ≡ [] → ⊥) × ((leaf.settable || leaf.shown) ≡ true → is_outside leaf.path ≡ true)
-
-outside_then : (o c : Bool) → ((o && c) || o) ≡ true → o ≡ true
-outside_then true c h = refl
-outside_then false c h = h
-
-one_stands : (x : List ℕ) (names : Spelling) (t : Ty) (n : ℤ) (retained constant : Bool) → StandsWell (leaf_by (x ∷ names) t n retained constant)
-one_stands x names t n retained constant = ((λ e. cc), outside_then (is_outside (path_of (x ∷ names))) (not constant))
-
-pins_stand : (names : Spelling) (retained : Bool) (ps : List Pin) → Each StandsWell (map (λ (p : Pin). leaf_by (p.name ∷ names) p.ty (pos 0) retained false) ps)
-pins_stand names retained [] = tt
-pins_stand names retained (p ∷ ps) = (one_stands p.name names p.ty (pos 0) retained false, pins_stand names retained ps)
-
-standard_stand : (n : ℕ) (names : Spelling) (retained : Bool) (k : StdKind) → Each StandsWell (standard_leaves n names retained k)
-standard_stand zero names retained k = tt
-standard_stand (suc n) names retained k = pins_stand names retained (pins k)
 
 abbrev InnerStand : Inner → Type 0
 InnerStand inner = (names : Spelling) (retained : Bool) (lists : List VarList) → Each StandsWell (inner names retained lists)
@@ -88,23 +65,6 @@ lists_stand n inner below pous names retained (l ∷ lists) = (list_stand n inne
 leaves_stand : (n : ℕ) (pous : List Pou) → InnerStand (leaves n pous)
 leaves_stand zero pous names retained lists = tt
 leaves_stand (suc n) pous names retained lists = each_flat_map StandsWell (list_leaves n (leaves n pous) pous names retained) lists (lists_stand n (leaves n pous) (leaves_stand n pous) pous names retained lists)
-
--- ---- leaves of the code
-
-has_name : (leaf : code.Leaf) → ((meant leaf).spelled ≡ [] → ⊥) → HasName leaf
-has_name leaf h = by leaf.path refl
-  where
-    by : (path : List (List ℕ)) → leaf.path ≡ path → is_nameless path ≡ false
-    by [] e = absurd (h (ap reverse e))
-    by (x ∷ path) e = refl
-
-named : (ls : List code.Leaf) → Each StandsWell (all_meant ls) → Each HasName ls
-named [] all = tt
-named (leaf ∷ ls) all = (has_name leaf all.0.0, named ls all.1)
-
-outside : (ls : List code.Leaf) → Each StandsWell (all_meant ls) → Each LiesOutside ls
-outside [] all = tt
-outside (leaf ∷ ls) all = (all.0.1, outside ls all.1)
 
 small : (n : ℕ) → n ≤ max_leaves → n < 2 ^ 32
 small n h = omega (arith, h)

@@ -1,34 +1,15 @@
 -- The leaves of a program by the types that variables have in the file.
-use Rattle.std.specs.Prelude.{ℕ, zero, suc, ℤ, pos, Bool, false, not, ◌&&◌, ◌||◌, List, [], ◌∷◌, Option, Some, None, map, slice_get, if◌then◌else◌}
+use Rattle.std.specs.Prelude.{ℕ, zero, suc, Bool, false, ◌||◌, List, [], ◌∷◌, Option, Some, None, slice_get, if◌then◌else◌}
 use Rattle.std.specs.List.{flat_map}
-use Rattle.plcx_types.specs.declared.ty.Ty.{Ty}
 use Rattle.plcx_types.specs.Value.{Value}
-use Rattle.plcx_std.specs.declared.kind.StdKind.{StdKind}
-use Rattle.plcx_std.specs.Pins.{Pin, pins}
-use Rattle.plcx_meaning.specs.Layout.{Spelling, path_of, Leaf, initial_value, is_retain, is_constant, is_outside, is_kept}
+use Rattle.plcx_meaning.specs.Layout.{Spelling, Leaf, initial_value, is_retain, is_constant, is_kept}
 use Rattle.plcx_model.specs.declared.project.VarTy.{VarTy}
 use Rattle.plcx_model.specs.declared.project.VarTy.TheVariants.{Plain, Std, Block}
 use Rattle.plcx_model.specs.declared.project.Variable.{Variable}
 use Rattle.plcx_model.specs.declared.project.VarList.{VarList}
 use Rattle.plcx_model.specs.declared.project.Pou.{Pou}
 use Rattle.plcx_view.specs.Declared.{class_of, mark_of}
-
--- a leaf by its path, which is spelled so
-abbrev pub leaf_by : Spelling → Ty → ℤ → (retained constant : Bool) → Leaf
-leaf_by names t n retained constant = record {
-  path = path_of names;
-  spelled = names;
-  ty = t;
-  initial = n;
-  retained = retained;
-  settable = is_outside (path_of names) && not constant;
-  shown = is_outside (path_of names);
-}
-
--- the leaves of a standard block at a path, one for each of its pins; none where no level is left
-abbrev pub standard_leaves : (levels : ℕ) → Spelling → (retained : Bool) → StdKind → List Leaf
-standard_leaves zero names retained k = []
-standard_leaves (suc n) names retained k = map (λ (p : Pin). leaf_by (p.name ∷ names) p.ty (pos 0) retained false) (pins k)
+use Rattle.plcx_leaves.specs.Leaves.{leaf_by, standard_leaves}
 
 -- the lists of the POU at a place
 abbrev pub lists_at : List Pou → ℕ → List VarList

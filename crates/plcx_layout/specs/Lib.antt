@@ -1,6 +1,5 @@
 -- The leaves of a program, and what is said of them.
 pub mod Leaves
-pub mod Within
 pub mod Suits
 pub mod Memories
 pub mod Laws

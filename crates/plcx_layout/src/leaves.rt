@@ -1,29 +1,21 @@
 //! The leaves of a program, instance by instance.
-ghost use Rattle.std.specs.Prelude.{◌≡◌, ◌∷◌, ◌++◌, ◌||◌, ℕ, List, [], false, pos, map, IfOk};
-ghost use Rattle.plcx_std.specs.Pins.{shown};
-ghost use Rattle.plcx_meaning.specs.Layout.{initial_value, is_kept, is_outside, is_retain, is_constant, path_of};
+ghost use Rattle.std.specs.Prelude.{◌≡◌, ◌∷◌, ◌++◌, ◌||◌, IfOk};
+ghost use Rattle.plcx_meaning.specs.Layout.{initial_value, is_kept, is_retain, is_constant};
 ghost use Rattle.plcx_types.specs.Lists.{Each};
 ghost use Rattle.plcx_model.specs.declared.project.VarTy.TheVariants.{Plain};
 ghost use Rattle.plcx_model.specs.Sound.{InitialSuits};
-ghost use Rattle.plcx_state.specs.Layouts.{meant, all_meant, BeginsTyped};
+ghost use Rattle.plcx_state.specs.Layouts.{all_meant, BeginsTyped};
 ghost use Rattle.plcx_layout.specs.Suits.{Suits, ListSuits, PousSuit};
 ghost use Rattle.plcx_view.specs.Declared.{class_of, mark_of};
-ghost use Rattle.plcx_layout.specs.Leaves.{leaf_by, standard_leaves, lists_at, type_leaves, variable_leaves, list_leaves, program_leaves};
+ghost use Rattle.plcx_layout.specs.Leaves.{lists_at, type_leaves, variable_leaves, list_leaves, program_leaves};
 ghost use Rattle.plcx_layout.specs.Leaves as specs;
-ghost use Rattle.plcx_layout.specs.Within.{spelled};
+ghost use Rattle.plcx_leaves.specs.Within.{spelled};
 
+use plcx_leaves::{Marks, leaf, with_standard, within_one};
 use plcx_model::{ListClass, Pou, VarList, VarTy, Variable};
-use plcx_state::{Leaf, Path};
-use plcx_std::{StdKind, StdPin, pins};
+use plcx_state::Leaf;
 use plcx_types::{Ident, NoMemory, Ty, Val, default_of};
 use std::alloc::Global;
-
-/// What is said of a variable by its list and the instance that it stands in.
-#[derive(Clone, Copy)]
-pub(crate) struct Marks {
-    pub(crate) retained: bool,
-    pub(crate) constant: bool,
-}
 
 /// A variable's initial value; one that isn't given is the type's default.
 fn initial_of(ty: Ty, initial: Option<Val>) -> Val
@@ -34,107 +26,6 @@ fn initial_of(ty: Ty, initial: Option<Val>) -> Val
         None => default_of(ty),
         Some(value) => value,
     }
-}
-
-/// The path of a name within instances, the outermost first.
-fn path_to(alloc: Global, within: &[&Ident], name: Ident) -> Result<Path, NoMemory>
-    ensures { IfOk result (λ path. path ≡ map (λ n. n.now) within.now ++ name ∷ []) }
-{
-    let mut names = Vec::new(alloc);
-    for outer in within {
-        names.push(outer.copy(alloc)?)?;
-    }
-    names.push(name)?;
-    Ok(Path::new(names))
-}
-
-/// Whether a variable is the program's own and none of the compiler's.
-fn is_outside(within: &[&Ident], path: &Path) -> bool
-    ensures { (name : List ℕ) → path.now ≡ map (λ n. n.now) within.now ++ name ∷ [] → result ≡ is_outside (path_of (name ∷ spelled within.now)) }
-{
-    if !within.is_empty() {
-        return false;
-    }
-    path.is_declared()
-}
-
-/// A leaf by its name within instances.
-fn leaf(
-    alloc: Global,
-    within: &[&Ident],
-    name: Ident,
-    ty: Ty,
-    initial: Val,
-    marks: Marks,
-) -> Result<Leaf, NoMemory>
-    ensures typed { IfOk result (λ leaf. initial.ty ≡ ty → BeginsTyped leaf) }
-    ensures shown { IfOk result (λ leaf. meant leaf ≡ leaf_by (name ∷ spelled within.now) ty initial.n marks.retained marks.constant) }
-{
-    let path = path_to(alloc, within, name)?;
-    let outside = is_outside(within, &path);
-    Ok(Leaf {
-        path,
-        ty,
-        initial,
-        retained: marks.retained,
-        settable: outside && !marks.constant,
-        shown: outside,
-    })
-}
-
-/// The leaf of a pin of a standard block. Its name has the form of one: what fails is memory.
-fn pin_leaf(
-    alloc: Global,
-    within: &[&Ident],
-    retained: bool,
-    pin: &StdPin,
-) -> Result<Leaf, NoMemory>
-    ensures typed { IfOk result BeginsTyped }
-    ensures shown { IfOk result (λ leaf. meant leaf ≡ leaf_by ((shown pin.now).name ∷ spelled within.now) (shown pin.now).ty (pos 0) retained false) }
-{
-    let Ok(name) = Ident::new(alloc, pin.name.as_bytes()) else {
-        return Err(NoMemory);
-    };
-    let marks = Marks {
-        retained,
-        constant: false,
-    };
-    Ok(leaf(alloc, within, name, pin.ty, default_of(pin.ty), marks)?)
-}
-
-/// The leaves of a standard block more.
-fn with_standard(
-    alloc: Global,
-    leaves: Vec<Leaf>,
-    levels: u32,
-    within: &[&Ident],
-    retained: bool,
-    kind: StdKind,
-) -> Result<Vec<Leaf>, NoMemory>
-    ensures typed { IfOk result (λ more. Each BeginsTyped leaves.items → Each BeginsTyped more.items) }
-    ensures shown { IfOk result (λ more. all_meant more.items ≡ all_meant leaves.items ++ standard_leaves levels (spelled within.now) retained kind) }
-{
-    let mut more = leaves;
-    if levels == 0 {
-        return Ok(more);
-    }
-    for pin in pins(kind) {
-        more.push(pin_leaf(alloc, within, retained, pin)?)?;
-    }
-    Ok(more)
-}
-
-/// The instances around a variable, and the variable's own.
-fn within_one<'a>(
-    alloc: Global,
-    within: &[&'a Ident],
-    name: &'a Ident,
-) -> Result<Vec<&'a Ident>, NoMemory>
-    ensures { IfOk result (λ names. spelled names.items ≡ name.entry.now ∷ spelled within.now) }
-{
-    let mut names = Vec::from_slice(alloc, within)?;
-    names.push(name)?;
-    Ok(names)
 }
 
 fn is_kept(class: ListClass) -> bool

@@ -1,5 +1,5 @@
 -- What is remembered by the types of the file is what is remembered by the names of types.
-use Rattle.std.proofs.Common.{◌≡◌, ℕ, zero, suc, Bool, true, false, List, [], ◌∷◌, ◌++◌, map, Option, Some, None, get_or, slice_get, refl, sym, ap, ap₂, ◌∙◌, subst, if◌then◌else◌}
+use Rattle.std.proofs.Common.{◌≡◌, ℕ, zero, suc, Bool, true, false, List, [], ◌∷◌, ◌++◌, map, Option, Some, None, slice_get, refl, sym, ap, ap₂, ◌∙◌, subst, if◌then◌else◌}
 use Rattle.std.specs.Prelude.{◌||◌}
 use Rattle.std.specs.List.{flat_map}
 use Rattle.std.specs.Option.{option_map}
@@ -14,14 +14,14 @@ use Rattle.plcx_types.specs.Name.{in_lower_case}
 use Rattle.plcx_types.specs.TypeName.{type_name, type_named}
 use Rattle.plcx_std.specs.declared.kind.StdKind.{StdKind}
 use Rattle.plcx_std.specs.Kind.{kind_name, kind_named}
-use Rattle.plcx_meaning.specs.Base.{Path, Memory as Remembered, AtEdge, AtOutput}
+use Rattle.plcx_meaning.specs.Base.{Path, AtEdge, AtOutput}
 use Rattle.plcx_meaning.specs.Diagram as diagram
 use Rattle.plcx_meaning.specs.Diagram.{Port, DiagramElement, has_edge, block_named}
 use Rattle.plcx_meaning.specs.Evaluate.{world_of, scope_of}
 use Rattle.plcx_meaning.specs.Layout as layout
 use Rattle.plcx_meaning.specs.Layout.{Spelling, path_of, Composed, composed, meaning, parts, parts_of, Scope, variables_at, variable_at, variable_named, is_retained, is_marked, is_retain, block_variables}
 use Rattle.plcx_meaning.proofs.Enabling.{each_split}
-use Rattle.plcx_meaning.proofs.Lists.{each_weaker, each_map}
+use Rattle.plcx_meaning.proofs.Lists.{each_weaker}
 use Rattle.plcx_meaning.proofs.LookupsOwn.{type_of_name, composed_meaning}
 use Rattle.plcx_meaning.proofs.ReadyUnits.{named_each}
 use Rattle.plcx_model.specs.declared.plan.Links.{Links}
@@ -41,10 +41,9 @@ use Rattle.plcx_draw.proofs.PouLaws.{pou_at}
 use Rattle.plcx_fits.proofs.Lists.{each_place}
 use Rattle.plcx_fits.proofs.Nests.{block_world}
 use Rattle.plcx_fits.proofs.Spelled.{kind_of_name, seen, whole}
-use Rattle.plcx_fits.proofs.Variables.{shown, each_shown, is_block, variables_differ}
+use Rattle.plcx_fits.proofs.Variables.{shown, is_block, variables_differ}
 use Rattle.plcx_numbered.specs.Agreeing.{Cell}
-use Rattle.plcx_numbered.specs.Numbers.{depth, element_cells, cells_behind, user_of, instance_cells, cells, element_types, instance_types, cell_types}
-use Rattle.plcx_numbered.proofs.Nested.{is_user}
+use Rattle.plcx_numbered.specs.Numbers.{depth, element_cells, cells_behind, instance_cells, cells, element_types, instance_types, cell_types}
 use Rattle.plcx_layout.specs.Leaves.{lists_at}
 use Rattle.plcx_layout.specs.Memories.{memory, element_memories, elements_at, type_memories, list_memories, memories, program_memories}
 use Rattle.plcx_opening.specs.Laws.{drawn, MemoriesAreLaid}

@@ -1,6 +1,6 @@
 use Rattle.plcx_state.specs.Layouts.{all_meant}
-use Rattle.plcx_layout.specs.Within.{spelled}
-use Rattle.plcx_layout.proofs.Standing.{level_done}
+use Rattle.plcx_leaves.specs.Within.{spelled}
+use Rattle.plcx_layout.proofs.Levels.{level_done}
 use Rattle.plcx_layout.proofs.leaves.+leaves.Goals as goal
 
 pub with_lists-returns-clause-shown : goal.with_lists-returns-clause-shown

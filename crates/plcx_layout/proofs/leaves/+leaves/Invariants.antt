@@ -6,7 +6,7 @@ use Rattle.plcx_state.specs.Layouts.{all_meant, BeginsTyped}
 use Rattle.plcx_layout.specs.Leaves.{type_leaves, list_leaves}
 use Rattle.plcx_layout.specs.Leaves as specs
 use Rattle.plcx_layout.specs.Suits.{Suits, ListSuits, PousSuit}
-use Rattle.plcx_layout.specs.Within.{spelled}
+use Rattle.plcx_leaves.specs.Within.{spelled}
 use Rattle.plcx_layout.proofs.leaves.+leaves.Given as goal
 
 abbrev pub decreases-with_lists : goal.decreases-with_lists

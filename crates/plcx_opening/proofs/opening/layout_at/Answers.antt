@@ -1,11 +1,10 @@
-use Rattle.std.proofs.Common.{◌≡◌, ◌<◌, List, Some, get_or, length, map, slice_get, sym, ap, ◌∙◌, subst, arith}
+use Rattle.std.proofs.Common.{◌≡◌, ◌<◌, List, Some, get_or, length, slice_get, sym, ap, ◌∙◌, subst, arith}
 use Rattle.std.proofs.Math.Logic.{∥∥₁_elim}
 use Rattle.std.proofs.lemmas.Option.{slice_get-get_or}
-use Rattle.plcx_meaning.specs.Diagram as diagram
 use Rattle.plcx_meaning.specs.Diagram.{DiagramElement}
 use Rattle.plcx_model.specs.declared.project.Pou.{Pou}
 use Rattle.plcx_model.specs.declared.project.Project.{Project}
-use Rattle.plcx_state.specs.Layouts.{Laid, laid}
+use Rattle.plcx_state.specs.Layouts.{laid}
 use Rattle.plcx_stored.specs.LaidFor.{IsLaidFor}
 use Rattle.plcx_view.specs.Diagrams.{diagrams_of}
 use Rattle.plcx_layout.specs.Memories.{program_memories}

@@ -1,11 +1,10 @@
-use Rattle.std.proofs.Common.{◌≡◌, ◌<◌, List, Some, map, length, refl, sym, ap, ◌∙◌, subst, arith}
+use Rattle.std.proofs.Common.{◌≡◌, Some, refl, sym, ap, ◌∙◌, subst, arith}
 use Rattle.std.specs.Prelude.{is_some}
 use Rattle.std.proofs.Math.Logic.{∥∥₁_elim, ∥∥₁_map}
 use Rattle.plcx_meaning.specs.Diagram as diagram
 use Rattle.plcx_meaning.specs.Fits.{ProjectFits}
 use Rattle.plcx_model.specs.declared.project.Project.{Project}
-use Rattle.plcx_state.specs.Stores.{Stored, IsStoreOf}
-use Rattle.plcx_drawn.specs.Pous.{shown_pou}
+use Rattle.plcx_state.specs.Stores.{IsStoreOf}
 use Rattle.plcx_types.specs.Lists.{Each}
 use Rattle.plcx_view.specs.Diagrams.{diagrams_of}
 use Rattle.plcx_steps.specs.declared.program.Program.{Program}

@@ -2,14 +2,14 @@ use Rattle.std.proofs.Common.{rules, ◌≡◌, length, map, sym, ap, ◌∙◌,
 use Rattle.std.specs.Prelude.{nat_abs}
 use Rattle.std.proofs.lemmas.Int.{ints}
 use mir.Val.{SFits}
-use Rattle.plcx_types.specs.Lists.{Each}
 use Rattle.plcx_meaning.proofs.Lists.{each_weaker}
 use Rattle.plcx_scan.specs.declared.event.Input.{Input}
 use Rattle.plcx_scan.specs.Events.{IsInput, meant_input}
-use Rattle.plcx_eval.specs.Ready.{Puts}
+use Rattle.plcx_frames.specs.Frames.{Puts}
 use Rattle.plcx_eval.specs.Sides.{diagrams, machine_of}
 use Rattle.plcx_eval.proofs.Sided.{project_fits}
-use Rattle.plcx_eval.proofs.Scanned.{store_of, stands, as_long, scanned, stopped_is, last_is}
+use Rattle.plcx_frames.proofs.Scanning.{as_long, stopped_is, last_is}
+use Rattle.plcx_eval.proofs.Scanned.{store_of, stands, scanned}
 use Rattle.plcx_eval.proofs.side.DiagramSide.scan_watched.Goals as goal
 
 pub put_inputs-requires : goal.put_inputs-requires
