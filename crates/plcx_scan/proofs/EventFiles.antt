@@ -99,7 +99,7 @@ module _ (ds : List Column) (rows left : List Record) (entries : List Entry) (in
   }
 
 -- where none is left, all were read
-all_taken : {A : Type 0} (xs : List A) (n : ℕ) → drop n xs ≡ [] → take n xs ≡ xs
+pub all_taken : {A : Type 0} (xs : List A) (n : ℕ) → drop n xs ≡ [] → take n xs ≡ xs
 all_taken [] zero h = refl
 all_taken [] (suc n) h = refl
 all_taken (x ∷ xs) zero h = absurd (cc)

@@ -77,12 +77,12 @@ scan_same cs last row t u is js h k =
     ap₂ Scan (h.time_is.time_is ∙ ap number text ∙ sym k.time_is.time_is) (inputs_same cs h.fields is js h.are_inputs (subst (λ (fs : Record). AreInputs cs fs js) (sym fields) k.are_inputs))
 
 -- the first byte of the first field
-first_byte : Record → ℕ
+pub first_byte : Record → ℕ
 first_byte [] = 0
 first_byte ([] ∷ fields) = 0
 first_byte ((byte ∷ bytes) ∷ fields) = byte
 
-starts_with : (row : Record) (byte : ℕ) (bytes : List ℕ) (fields : Record) → row ≡ (byte ∷ bytes) ∷ fields → first_byte row ≡ byte
+pub starts_with : (row : Record) (byte : ℕ) (bytes : List ℕ) (fields : Record) → row ≡ (byte ∷ bytes) ∷ fields → first_byte row ≡ byte
 unfolding first_byte
 starts_with row byte bytes fields e = ap first_byte e
 

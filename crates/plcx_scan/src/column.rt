@@ -1,10 +1,9 @@
 //! The first record of an event file: the columns of its scans.
 ghost use Rattle.std.specs.Prelude.{◌≡◌, ◌<◌, ◌^◌, true, Some, None, IfOk, IfSome, length, slice_set, map, drop, option_map};
-ghost use Rattle.plcx_types.specs.Name.{in_lower_case};
 ghost use Rattle.plcx_scan.specs.ReadFiles.{column_of, column_at, column_named, untaken, columns_from, none_taken, columns_of};
 
 use crate::record::Record;
-use plcx_state::{Leaf, PathTable};
+use plcx_state::{Leaf, PathTable, in_lower_case};
 use plcx_types::{NoMemory, Ty};
 use std::alloc::{AllocError, Global};
 
@@ -35,14 +34,6 @@ fn column_at(leaves: &[Leaf], number: usize) -> Option<Column>
 {
     let leaf = leaves.get(number)?;
     column_of(number as u32, leaf)
-}
-
-fn in_lower_case(alloc: Global, name: &[u8]) -> Result<Vec<u8>, NoMemory>
-    ensures { IfOk result (λ copy. copy.items ≡ in_lower_case name.now) }
-{
-    let mut copy = Vec::from_slice(alloc, name)?;
-    copy.as_mut_slice().make_ascii_lowercase();
-    Ok(copy)
 }
 
 /// The column of the settable leaf of this name, whatever the case of its letters.

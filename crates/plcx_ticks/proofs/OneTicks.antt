@@ -1,20 +1,19 @@
 -- A file of ticks stands for one list of events at most, and has one first wrong record at most.
-use Rattle.std.proofs.Common.{◌≡◌, ◌<◌, ◌≤◌, ◌+◌, ◌∷◌, ◌∙◌, ◌⊎◌, ℕ, ℤ, zero, suc, pos, true, false, true≢false, List, [], Some, map, take, drop, length, inl, inr, refl, sym, ap, ap₂, subst, arith}
-use Rattle.std.specs.Prelude.{not, slice_get, codes}
-use Rattle.std.specs.List.{list_any}
-use Rattle.std.proofs.lemmas.Bool.{and_parts, or_parts, not-true, cases_lt}
+use Rattle.std.proofs.Common.{◌≡◌, ◌<◌, ◌≤◌, ◌+◌, ◌∷◌, ◌∙◌, ◌⊎◌, ℕ, ℤ, zero, suc, pos, List, [], Some, take, drop, length, inl, inr, refl, sym, ap, ap₂, subst, arith}
+use Rattle.std.specs.Prelude.{slice_get, codes}
+use Rattle.std.proofs.lemmas.Bool.{cases_lt}
 use Rattle.std.proofs.lemmas.List.{take-take}
 use Rattle.std.proofs.lemmas.Option.{same_Some}
 use Rattle.plcx_types.specs.Duration.{number}
 use Rattle.plcx_types.specs.Lists.{Each}
 use Rattle.plcx_types.specs.Name.{in_lower_case}
 use Rattle.plcx_types.proofs.Literals.{value_reads}
-use Rattle.plcx_meaning.specs.Base.{Path, same_path}
-use Rattle.plcx_meaning.specs.Layout.{Leaf, all_apart, IsLayout}
+use Rattle.plcx_meaning.specs.Layout.{Leaf, IsLayout}
 use Rattle.plcx_state.specs.Retains.{Pairwise}
 use Rattle.plcx_state.proofs.Eaches.{each_get}
-use Rattle.plcx_state.proofs.Paths.{same_if}
+use Rattle.plcx_state.proofs.Places.{one_meant}
 use Rattle.plcx_scan.specs.Files.{Record, records_of}
+use Rattle.plcx_scan.proofs.OneEvents.{starts_with}
 use Rattle.plcx_tasks.specs.declared.planning.Instance.{Instance}
 use Rattle.plcx_tasks.specs.declared.planning.TaskPlan.{TaskPlan}
 use Rattle.plcx_tasks.specs.declared.ticking.TaskInput.{TaskInput}
@@ -24,31 +23,6 @@ use Rattle.plcx_tasks.specs.Tasks.{tick_after}
 use Rattle.plcx_ticks.specs.declared.column.TickColumn.{TickColumn}
 use Rattle.plcx_ticks.specs.Ticks.{IsPointed, AreNamedApart, IsColumn, IsHeader, input_of, IsInput, AreInputs, IsTick, IsEvent, AreEvents, RecordsStandFor, StandsForTicks, IsWrong, IsFirstWrong, nothing, wrong}
 use Rattle.plcx_ticks.proofs.Columns.{parts_of, one_instance}
-
--- a path that none of these leaves has
-not_among : (p : Path) (leaves : List Leaf) → list_any (same_path p) (map (λ (l : Leaf). l.path) leaves) ≡ false → (j : ℕ) (b : Leaf) → slice_get leaves j ≡ Some b → p ≡ b.path → ⊥
-not_among p [] h j b at e = cc
-not_among p (l ∷ leaves) h zero b at e =
-    let parts = or_parts (same_path p l.path) (list_any (same_path p) (map (λ (x : Leaf). x.path) leaves)) h in
-    let is : l ≡ b = same_Some l b at in
-    true≢false (sym (same_if p l.path (e ∙ ap (λ (x : Leaf). x.path) (sym is))) ∙ parts.0)
-not_among p (l ∷ leaves) h (suc j) b at e = not_among p leaves (or_parts (same_path p l.path) (list_any (same_path p) (map (λ (x : Leaf). x.path) leaves)) h).1 j b at e
-
--- a leaf is known by its path
-one_leaf : (leaves : List Leaf) → all_apart (map (λ (l : Leaf). l.path) leaves) ≡ true → (i j : ℕ) (a b : Leaf) → slice_get leaves i ≡ Some a → slice_get leaves j ≡ Some b → a.path ≡ b.path → i ≡ j
-one_leaf [] h i j a b p q e = absurd (cc)
-one_leaf (l ∷ leaves) h zero zero a b p q e = refl
-one_leaf (l ∷ leaves) h zero (suc j) a b p q e =
-    let parts = and_parts (not (list_any (same_path l.path) (map (λ (x : Leaf). x.path) leaves))) (all_apart (map (λ (x : Leaf). x.path) leaves)) h in
-    let is : l ≡ a = same_Some l a p in
-    absurd (not_among l.path leaves (not-true _ parts.0) j b q (ap (λ (x : Leaf). x.path) is ∙ e))
-one_leaf (l ∷ leaves) h (suc i) zero a b p q e =
-    let parts = and_parts (not (list_any (same_path l.path) (map (λ (x : Leaf). x.path) leaves))) (all_apart (map (λ (x : Leaf). x.path) leaves)) h in
-    let is : l ≡ b = same_Some l b q in
-    absurd (not_among l.path leaves (not-true _ parts.0) i a p (ap (λ (x : Leaf). x.path) is ∙ sym e))
-one_leaf (l ∷ leaves) h (suc i) (suc j) a b p q e =
-    let parts = and_parts (not (list_any (same_path l.path) (map (λ (x : Leaf). x.path) leaves))) (all_apart (map (λ (x : Leaf). x.path) leaves)) h in
-    ap suc (one_leaf leaves parts.1 i j a b p q e)
 
 -- a text has one first point
 parts_same : (text f b g d : List ℕ) → IsPointed text f b → IsPointed text g d → (f ≡ g) × (b ≡ d)
@@ -67,7 +41,7 @@ module _ (instances : List Instance) (lays : List (List Leaf)) (apart : AreNamed
       let leaves : h.leaves ≡ k.leaves = same_Some h.leaves k.leaves (sym h.own ∙ ap (slice_get lays) place ∙ k.own) in
       let at : slice_get h.leaves d.leaf ≡ Some k.leaf = ap (λ (ls : List Leaf). slice_get ls d.leaf) leaves ∙ k.is_leaf in
       let paths : h.leaf.path ≡ k.leaf.path = h.column.path_is ∙ ap (λ (n : List ℕ). in_lower_case n ∷ []) parts.1 ∙ sym k.column.path_is in
-      let number : c.leaf ≡ d.leaf = one_leaf h.leaves (each_get IsLayout lays c.instance h.leaves h.own laid).apart c.leaf d.leaf h.leaf k.leaf h.is_leaf at paths in
+      let number : c.leaf ≡ d.leaf = one_meant h.leaves (each_get IsLayout lays c.instance h.leaves h.own laid).apart c.leaf d.leaf h.leaf k.leaf h.is_leaf at paths in
       let same : h.leaf ≡ k.leaf = same_Some h.leaf k.leaf (sym h.is_leaf ∙ ap (slice_get h.leaves) number ∙ at) in
       let typed : c.ty ≡ d.ty = h.typed ∙ ap (λ (l : Leaf). l.ty) same ∙ sym k.typed in
       ap₂ (λ i n. record { instance = i; leaf = n; ty = c.ty }) place number ∙ ap (λ t. record { instance = d.instance; leaf = d.leaf; ty = t }) typed
@@ -111,16 +85,6 @@ tick_same cs last row t u is js h k =
     let fields : h.fields ≡ k.fields = cc in
     let at : h.at ≡ k.at = h.at_is.time_is ∙ ap number text ∙ sym k.at_is.time_is in
     ap₂ event.Tick (h.time_is ∙ ap pos at ∙ sym k.time_is) (inputs_same cs h.fields is js h.are_inputs (subst (λ (fs : Record). AreInputs cs fs js) (sym fields) k.are_inputs))
-
--- the first byte of the first field
-first_byte : Record → ℕ
-first_byte [] = 0
-first_byte ([] ∷ fields) = 0
-first_byte ((byte ∷ bytes) ∷ fields) = byte
-
-starts_with : (row : Record) (byte : ℕ) (bytes : List ℕ) (fields : Record) → row ≡ (byte ∷ bytes) ∷ fields → first_byte row ≡ byte
-unfolding first_byte
-starts_with row byte bytes fields e = ap first_byte e
 
 event_same : (cs : List TickColumn) (last : ℕ) (row : Record) (e f : TaskEvent) → IsEvent cs last row e → IsEvent cs last row f → e ≡ f
 event_same cs last row (event.Tick t is) (event.Tick u js) h k = tick_same cs last row t u is js h k

@@ -1,5 +1,5 @@
 -- Whole files of ticks: what is read of them, and where they are wrong.
-use Rattle.std.proofs.Common.{◌≡◌, ◌+◌, ◌∷◌, ◌++◌, ◌∙◌, ℕ, zero, suc, List, [], Some, None, take, drop, length, refl, sym, ap, subst, arith, length-append}
+use Rattle.std.proofs.Common.{◌≡◌, ◌+◌, ◌∷◌, ◌++◌, ◌∙◌, ℕ, suc, List, [], Some, None, take, drop, length, refl, sym, ap, subst, arith, length-append}
 use Rattle.std.specs.Prelude.{Option}
 use Rattle.std.specs.Option.{option_map, option_and_then}
 use Rattle.std.proofs.lemmas.List.{take_more}
@@ -12,11 +12,12 @@ use Rattle.plcx_scan.specs.declared.reading.EventError.{EventError}
 use Rattle.plcx_scan.specs.declared.reading.EventError.TheVariants.{Row, NoMemory}
 use Rattle.plcx_scan.specs.Files.{Record}
 use Rattle.plcx_scan.proofs.Entries.{AtPlace, at_place}
+use Rattle.plcx_scan.proofs.EventFiles.{all_taken}
 use Rattle.plcx_tasks.specs.declared.planning.Instance.{Instance}
 use Rattle.plcx_tasks.specs.declared.ticking.TaskEvent.{TaskEvent}
 use Rattle.plcx_tasks.specs.Tasks.{tick_after, AreTicks}
 use Rattle.plcx_ticks.specs.declared.column.TickColumn.{TickColumn}
-use Rattle.plcx_ticks.specs.Ticks.{AreNamedApart, RecordsStandFor, IsFirstWrong, IsWrong, meant_lays}
+use Rattle.plcx_ticks.specs.Ticks.{AreNamedApart, RecordsStandFor, IsFirstWrong, meant_lays}
 use Rattle.plcx_ticks.specs.Ticks as ticks
 use Rattle.plcx_ticks.specs.Errors.{WhyNotRecords}
 use Rattle.plcx_ticks.specs.ReadTicks.{tables_of, IsTable, columns_of, row_event, rows_events, tick_at_end, AreRead, IsUnread, WhyNotRows, records_events, IsFirstUnread, nothing, unread, WhyNotRead}
@@ -59,12 +60,6 @@ module _ (cs : List TickColumn) (rows left : List Record) (events : List TaskEve
   }
 
 -- where none is left, all were read
-all_taken : {A : Type 0} (xs : List A) (n : ℕ) → drop n xs ≡ [] → take n xs ≡ xs
-all_taken [] zero h = refl
-all_taken [] (suc n) h = refl
-all_taken (x ∷ xs) zero h = absurd (cc)
-all_taken {A = A} (x ∷ xs) (suc n) h = ap (λ (t : List A). x ∷ t) (all_taken xs n h)
-
 pub read_all : (cs : List TickColumn) (rows left : List Record) (events : List TaskEvent) (last : ℕ) → AreRead cs rows left events last → left ≡ [] → rows_events cs 0 rows ≡ Some events
 read_all cs rows left events last are none = ap (rows_events cs 0) (sym (all_taken rows (length events) (sym are.left_are ∙ none))) ∙ are.read
 

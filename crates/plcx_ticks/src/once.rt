@@ -6,18 +6,10 @@ ghost use Rattle.plcx_types.specs.Name.{in_lower_case};
 ghost use Rattle.plcx_ticks.specs.ReadTicks.{Notes, are_once};
 
 use plcx_scan::Record;
+use plcx_state::in_lower_case;
 use plcx_types::NoMemory;
 use std::alloc::Global;
 use std::collections::HashSet;
-
-/// A text in lower case.
-fn in_lower_case(alloc: Global, text: &[u8]) -> Result<Vec<u8>, NoMemory>
-    ensures { IfOk result (λ copy. copy.items ≡ in_lower_case text.now) }
-{
-    let mut copy = Vec::from_slice(alloc, text)?;
-    copy.as_mut_slice().make_ascii_lowercase();
-    Ok(copy)
-}
 
 /// Notes a name, and says whether it is new.
 fn note(alloc: Global, seen: &mut HashSet<Vec<u8>>, name: &[u8]) -> Result<bool, NoMemory>
