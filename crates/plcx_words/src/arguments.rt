@@ -1,6 +1,6 @@
 //! The texts that words give for the arguments of the one simple command.
-ghost use Rattle.std.specs.Prelude.{◌≡◌, Some, None, IfOk, false, map, string_bytes};
-ghost use Rattle.clap.specs.Simple.{app_of, new_rule};
+ghost use Rattle.std.specs.Prelude.{◌≡◌, Some, None, IfOk, false, map, string_bytes, codes};
+ghost use Rattle.clap.specs.Simple.{app_of, new_rule, with_rule};
 ghost use Rattle.clap.specs.Walk.{rule_of};
 ghost use Rattle.plcx_words.specs.Simple as Spec;
 ghost use Rattle.plcx_words.specs.Simple.{given};
@@ -54,12 +54,19 @@ fn bare<'a>(alloc: Global) -> Command<'a>
     help.disable_version_flag(true)
 }
 
-fn tool<'a>(alloc: Global) -> Result<Command<'a>, AllocError>
-    ensures { IfOk result (λ c. app_of c ≡ Spec.tool) }
+fn positional<'a>(alloc: Global) -> Result<Command<'a>, AllocError>
+    ensures { IfOk result (λ c. app_of c ≡ with_rule (with_rule (with_rule Spec.bare (Spec.needed (codes "action"))) (Spec.needed (codes "file"))) (new_rule (codes "events"))) }
 {
     let one = bare(alloc).arg(needed(alloc, "action"))?;
     let two = one.arg(needed(alloc, "file"))?;
     let three = two.arg(free(alloc, "events"))?;
+    Ok(three)
+}
+
+fn tool<'a>(alloc: Global) -> Result<Command<'a>, AllocError>
+    ensures { IfOk result (λ c. app_of c ≡ Spec.tool) }
+{
+    let three = positional(alloc)?;
     let four = three.arg(named(alloc, "program"))?;
     let five = four.arg(named(alloc, "turns"))?;
     let six = five.arg(named(alloc, "retain"))?;
